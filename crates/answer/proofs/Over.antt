@@ -1,0 +1,66 @@
+-- Laws of fronts written over lent lists.
+use Prim.Native.Nat.{ℕ, zero, suc, _+_, _-_, _<_, _≤_}
+use mathlib.Core.Path.{_≡_, refl, sym, ap, _∙_}
+use mathlib.Core.List.{List, [], _∷_, _++_, append-assoc}
+use native.Mathlib.Numerals.{add-one}
+use native.Mathlib.Omega.{arith}
+use lib.ListN.{length, getD, set, take, drop, length-append, length-drop, List·getD-append}
+use lib.Seq.{drop-cons, set-append-seam, take-append-seam, drop-append-add, drop-drop}
+use Rattle.answer.specs.declared.Answer.{Answer}
+use Rattle.answer.specs.declared.Answer.the-variants.{Done, Refused}
+use Rattle.answer.specs.Fronts.{over, left}
+
+pub over-none : (old : List ℕ) → over [] old ≡ old
+unfolding over
+over-none old = refl
+
+pub length-over : (front old : List ℕ) → length front ≤ length old → length (over front old) ≡ length old
+unfolding over
+length-over front old l = length-append front _ ∙ omega (arith, length-drop (length front) old)
+
+-- one more stored after the front
+pub over-snoc : (front old : List ℕ) (v : ℕ) → length front < length old → set (over front old) (length front) v ≡ over (front ++ v ∷ []) old
+unfolding over
+over-snoc front old v l =
+    ap (λ (t : List ℕ). set (front ++ t) (length front) v) (drop-cons old (length front) 0 l)
+    ∙ set-append-seam front _ _ v
+    ∙ sym (append-assoc front (v ∷ []) _)
+    ∙ ap (λ (n : ℕ). (front ++ v ∷ []) ++ drop n old) (sym (length-append front (v ∷ []) ∙ add-one (length front)))
+
+-- the same at a place that is the front's length
+pub over-next : (front old : List ℕ) (n v : ℕ) → length front ≡ n → n < length old → set (over front old) n v ≡ over (front ++ v ∷ []) old
+over-next front old n v e l =
+    ap (λ (k : ℕ). set (over front old) k v) (sym e) ∙ over-snoc front old v (omega arith)
+
+pub over-at : (front old : List ℕ) (i : ℕ) → i < length front → getD (over front old) i 0 ≡ getD front i 0
+unfolding over
+over-at front old i h = List·getD-append front _ 0 i h
+
+pub take-over : (front old : List ℕ) → take (length front) (over front old) ≡ front
+unfolding over
+take-over front old = take-append-seam front _
+
+-- a longer front over a shorter one
+pub over-over : (a b old : List ℕ) → length a ≤ length b → over b (over a old) ≡ over b old
+unfolding over
+over-over a b old l =
+    let d = length b - length a in
+    let e : length b ≡ length a + d = omega arith in
+    ap (λ (t : List ℕ). b ++ t)
+    (ap (λ (n : ℕ). drop n (a ++ drop (length a) old)) e
+    ∙ drop-append-add a _ d
+    ∙ drop-drop d (length a) old
+    ∙ ap (λ (n : ℕ). drop n old) (sym e))
+
+-- What a call leaves, by its answer.
+pub kept : {r a : Answer} {x y z : ℕ} (front old : List ℕ) → r ≡ a → r ≡ Refused x y z → old ≡ left a front old
+unfolding left
+kept front old e h = rw (← e, h)
+
+pub made : {r a : Answer} (front old : List ℕ) → r ≡ a → r ≡ Done → over front old ≡ left a front old
+unfolding left
+made front old e h = rw (← e, h)
+
+pub left-done : {a : Answer} (front old : List ℕ) → a ≡ Done → left a front old ≡ over front old
+unfolding left
+left-done front old e = rw e

@@ -1,0 +1,5 @@
+pub mod Gates
+pub mod Sim
+pub mod Glued
+pub mod Words
+pub mod Accepted

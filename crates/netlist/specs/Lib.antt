@@ -1,0 +1,6 @@
+pub mod Gates
+pub mod Net
+pub mod Words
+pub mod Glue
+pub mod Check
+pub mod Sound
