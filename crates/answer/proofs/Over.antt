@@ -53,14 +53,10 @@ over-over a b old l =
     ∙ ap (λ (n : ℕ). drop n old) (sym e))
 
 -- What a call leaves, by its answer.
-pub kept : {r a : Answer} {x y z : ℕ} (front old : List ℕ) → r ≡ a → r ≡ Refused x y z → old ≡ left a front old
+pub kept : {r : Answer} {x y z : ℕ} (front old : List ℕ) → r ≡ Refused x y z → old ≡ left r front old
 unfolding left
-kept front old e h = rw (← e, h)
+kept front old e = rw e
 
-pub made : {r a : Answer} (front old : List ℕ) → r ≡ a → r ≡ Done → over front old ≡ left a front old
+pub made : {r : Answer} (front old : List ℕ) → r ≡ Done → over front old ≡ left r front old
 unfolding left
-made front old e h = rw (← e, h)
-
-pub left-done : {a : Answer} (front old : List ℕ) → a ≡ Done → left a front old ≡ over front old
-unfolding left
-left-done front old e = rw e
+made front old e = rw e

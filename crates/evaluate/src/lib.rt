@@ -1,0 +1,137 @@
+// Evaluation of a netlist on bits in the clear: document 01, "Netlists". A value for every wire, then the
+// outputs. Judged 9, 3, 4, 8; the lists are the netlist, the inputs, the values and the outputs.
+use answer::Answer;
+use netlist::gate::Gate;
+ghost use mathlib.Core.Path.{_≡_};
+ghost use Prim.Native.Nat.{_+_, _≤_};
+ghost use lib.ListN.{length};
+ghost use Rattle.answer.specs.Fronts.{over};
+ghost use Rattle.netlist.specs.Net.{Uses, step, values, valAlg, eval};
+ghost use Rattle.netlist.specs.Words.{inputsOf, gatesOf, outputsOf, netOf};
+ghost use Rattle.netlist.specs.Sound.{Sound};
+ghost use Rattle.evaluate.specs.Evaluate.{evaluateAnswer, Evaluated};
+
+// What a gate makes of the wires before it.
+fn value(gate: Gate, values: &[u8]) -> u8
+    requires { ⌜ Uses (length (now values)) gate ⌝ }
+    ensures { λ r. ⌜ r ≡ step valAlg (now (values .entry)) gate ⌝ }
+{
+    match gate {
+        Gate::Zero => 0,
+        Gate::One => 1,
+        Gate::Not(a) => {
+            let i = a as usize;
+            if values[i] == 0 { 1 } else { 0 }
+        }
+        Gate::Xor(a, b) => {
+            let i = a as usize;
+            let j = b as usize;
+            if values[i] == values[j] { 0 } else { 1 }
+        }
+        Gate::And(a, b) => {
+            let i = a as usize;
+            let j = b as usize;
+            if values[i] == 0 { 0 } else { values[j] }
+        }
+        Gate::Mux(a, b, c) => {
+            let i = a as usize;
+            let j = b as usize;
+            let k = c as usize;
+            if values[i] == 0 { values[j] } else { values[k] }
+        }
+    }
+}
+
+// The inputs' values, at the front.
+fn put_inputs(inputs: &[u8], values: &mut [u8])
+    requires { ⌜ length (now inputs) ≤ length (now values) ⌝ }
+    ensures { λ r. ⌜ now (values .exit) ≡ over (now (inputs .entry)) (now (values .entry)) ⌝ }
+{
+    let mut i: usize = 0;
+    while i < inputs.len() {
+        values[i] = inputs[i];
+        i += 1;
+    }
+}
+
+// The gates' values, after those of the inputs, which stand.
+fn put_gates(net: &[u32], values: &mut [u8], inputs: usize, gates: usize)
+{
+    let mut g: usize = 0;
+    while g < gates {
+        let at = 3 + 4 * g;
+        let d = netlist::gate::decoded(net[at], net[at + 1], net[at + 2], net[at + 3]);
+        let v = value(d, values);
+        let wire = inputs + g;
+        values[wire] = v;
+        g += 1;
+    }
+}
+
+// The outputs' values, where every wire's value stands. The output wires begin at word start.
+fn put_outputs(net: &[u32], values: &[u8], outputs: &mut [u8], start: usize, count: usize)
+{
+    let mut o: usize = 0;
+    while o < count {
+        let wire = net[start + o] as usize;
+        outputs[o] = values[wire];
+        o += 1;
+    }
+}
+
+fn judge(net: &[u32], inputs: &[u8], value_room: usize, output_room: usize) -> Answer
+    ensures { λ r. ⌜ r ≡ evaluateAnswer (now (net .entry)) (now (inputs .entry)) «value_room» «output_room» ⌝ }
+{
+    let r = netlist::check::check_as(net, 1);
+    let Answer::Done = r else {
+        return r;
+    };
+    let len = inputs.len();
+    if len != net[0] as usize {
+        return Answer::Refused {
+            number: answer::LENGTH,
+            list: 2,
+            place: len,
+        };
+    }
+    let place = answer::first_no_bit(inputs);
+    if place < len {
+        return Answer::Refused {
+            number: answer::BIT,
+            list: 2,
+            place,
+        };
+    }
+    if value_room < net[0] as usize + net[1] as usize {
+        return Answer::Refused {
+            number: answer::ROOM,
+            list: 3,
+            place: value_room,
+        };
+    }
+    if output_room < net[2] as usize {
+        return Answer::Refused {
+            number: answer::ROOM,
+            list: 4,
+            place: output_room,
+        };
+    }
+    Answer::Done
+}
+
+// A value for every wire, then the outputs.
+pub fn evaluate(net: &[u32], inputs: &[u8], values: &mut [u8], outputs: &mut [u8]) -> Answer
+    ensures { λ r. ⌜ Evaluated (now (net .entry)) (now (inputs .entry)) (now (values .entry)) (now (outputs .entry)) r (now (values .exit)) (now (outputs .exit)) ⌝ }
+{
+    let r = judge(net, inputs, values.len(), outputs.len());
+    let Answer::Done = r else {
+        return r;
+    };
+    let i = net[0] as usize;
+    let g = net[1] as usize;
+    let o = net[2] as usize;
+    put_inputs(inputs, values);
+    put_gates(net, values, i, g);
+    put_outputs(net, values, outputs, 3 + 4 * g, o);
+    Answer::Done
+}
