@@ -55,8 +55,7 @@ fn put_inputs(inputs: &[u8], values: &mut [u8])
 }
 
 // The gates' values, after those of the inputs, which stand.
-fn put_gates(net: &[u32], values: &mut [u8], inputs: usize, gates: usize)
-{
+fn put_gates(net: &[u32], values: &mut [u8], inputs: usize, gates: usize) {
     let mut g: usize = 0;
     while g < gates {
         let at = 3 + 4 * g;
@@ -69,8 +68,7 @@ fn put_gates(net: &[u32], values: &mut [u8], inputs: usize, gates: usize)
 }
 
 // The outputs' values, where every wire's value stands. The output wires begin at word start.
-fn put_outputs(net: &[u32], values: &[u8], outputs: &mut [u8], start: usize, count: usize)
-{
+fn put_outputs(net: &[u32], values: &[u8], outputs: &mut [u8], start: usize, count: usize) {
     let mut o: usize = 0;
     while o < count {
         let wire = net[start + o] as usize;

@@ -1,1 +1,207 @@
-// glue
+// Gluing two netlists: document 01, "Gluing". Inputs of the first; its gates; then the gates of the second,
+// written from where the first's end; outputs of the second. Judged 9, 9, 8, 10, 11; the lists are the
+// first, the second and the result.
+use answer::Answer;
+use netlist::gate::Gate;
+ghost use mathlib.Core.Path.{_≡_};
+ghost use mathlib.Core.List.{[], _∷_, _++_, map};
+ghost use Prim.Native.Nat.{_+_, _<_, _≤_};
+ghost use lib.ListN.{length, drop};
+ghost use lib.Seq.{sets};
+ghost use Rattle.answer.specs.Fronts.{over};
+ghost use Rattle.netlist.specs.Gates.{gateWords};
+ghost use Rattle.netlist.specs.Words.{gatesOf, gatePlace, gatesWords, gatesAt};
+ghost use Rattle.netlist.specs.Glue.{thru, ren};
+ghost use Rattle.glue.specs.Glue.{glueAnswer, gluedWords, GluedAs};
+ghost use Rattle.glue.specs.Parts.{Small, SmallAll, quadWords, secondWords, Second, Fit};
+
+// Where wire i of the second netlist stands: outs are the first's outputs, base the number of its wires.
+fn wire(outs: &[u32], base: u32, i: u32) -> u32
+    requires { ⌜ base + i < 4294967296 ⌝ }
+    ensures { λ r. ⌜ r ≡ thru (now (outs .entry)) base i ⌝ }
+{
+    let k = i as usize;
+    if k < outs.len() {
+        outs[k]
+    } else {
+        base + (k - outs.len()) as u32
+    }
+}
+
+// A gate of the second netlist over the wires of the glued one.
+fn renamed(outs: &[u32], base: u32, gate: Gate) -> Gate
+    requires { ⌜ Small base gate ⌝ }
+    ensures { λ r. ⌜ r ≡ ren (thru (now (outs .entry)) base) gate ⌝ }
+{
+    match gate {
+        Gate::Zero => Gate::Zero,
+        Gate::One => Gate::One,
+        Gate::Not(a) => Gate::Not(wire(outs, base, a)),
+        Gate::Xor(a, b) => Gate::Xor(wire(outs, base, a), wire(outs, base, b)),
+        Gate::And(a, b) => Gate::And(wire(outs, base, a), wire(outs, base, b)),
+        Gate::Mux(a, b, c) => Gate::Mux(
+            wire(outs, base, a),
+            wire(outs, base, b),
+            wire(outs, base, c),
+        ),
+    }
+}
+
+// A gate's four words.
+struct Quad {
+    kind: u32,
+    a: u32,
+    b: u32,
+    c: u32,
+}
+
+fn four(kind: u32, a: u32, b: u32, c: u32) -> Quad
+    ensures { λ r. ⌜ quadWords r ≡ kind ∷ a ∷ b ∷ c ∷ [] ⌝ }
+{
+    Quad { kind, a, b, c }
+}
+
+fn words_of(gate: Gate) -> Quad
+    ensures { λ r. ⌜ quadWords r ≡ gateWords gate ⌝ }
+{
+    match gate {
+        Gate::Zero => four(0, 0, 0, 0),
+        Gate::One => four(1, 0, 0, 0),
+        Gate::Not(a) => four(2, a, 0, 0),
+        Gate::Xor(a, b) => four(3, a, b, 0),
+        Gate::And(a, b) => four(4, a, b, 0),
+        Gate::Mux(a, b, c) => four(5, a, b, c),
+    }
+}
+
+fn put_gate(out: &mut [u32], at: usize, gate: Gate)
+    requires { ⌜ at + 4 ≤ length (now out) ⌝ }
+    ensures { λ r. ⌜ now (out .exit) ≡ sets (now (out .entry)) at (gateWords gate) ⌝ }
+{
+    let q = words_of(gate);
+    out[at] = q.kind;
+    out[at + 1] = q.a;
+    out[at + 2] = q.b;
+    out[at + 3] = q.c;
+}
+
+// The second netlist's gates.
+fn put_gates(second: &[u32], gates: usize, outs: &[u32], base: u32, out: &mut [u32])
+    requires { ⌜ (Second (now second) base (length (now out))) × (gates ≡ gatesOf (now second)) ⌝ }
+    ensures { λ r. ⌜ now (out .exit) ≡ over (gatesWords (map (ren (thru (now (outs .entry)) base)) (gatesAt (now (second .entry)) 3 gates))) (now (out .entry)) ⌝ }
+{
+    let mut g: usize = 0;
+    while g < gates {
+        let at = 3 + 4 * g;
+        let d = netlist::gate::decoded(second[at], second[at + 1], second[at + 2], second[at + 3]);
+        let e = renamed(outs, base, d);
+        put_gate(out, 4 * g, e);
+        g += 1;
+    }
+}
+
+// The second netlist's outputs, which are the given words of it.
+fn put_outputs(wires: &[u32], outs: &[u32], base: u32, out: &mut [u32])
+    requires { ⌜ (length (now wires) ≤ length (now out)) × SmallAll base (now wires) ⌝ }
+    ensures { λ r. ⌜ now (out .exit) ≡ over (map (thru (now (outs .entry)) base) (now (wires .entry))) (now (out .entry)) ⌝ }
+{
+    let mut o: usize = 0;
+    while o < wires.len() {
+        let w = wire(outs, base, wires[o]);
+        out[o] = w;
+        o += 1;
+    }
+}
+
+// The second netlist's gates and outputs, from the front of what is lent.
+fn put_second(second: &[u32], outs: &[u32], base: u32, out: &mut [u32])
+    requires { ⌜ Second (now second) base (length (now out)) ⌝ }
+    ensures { λ r. ⌜ now (out .exit) ≡ over (secondWords (now (second .entry)) (now (outs .entry)) base) (now (out .entry)) ⌝ }
+{
+    let gates = second[1] as usize;
+    let start = 3 + 4 * gates;
+    let end = 4 * gates;
+    put_gates(second, gates, outs, base, out);
+    put_outputs(&second[start..], outs, base, &mut out[end..]);
+}
+
+fn put_header(out: &mut [u32], inputs: u32, gates: u32, outputs: u32)
+    requires { ⌜ 3 ≤ length (now out) ⌝ }
+    ensures { λ r. ⌜ now (out .exit) ≡ over (inputs ∷ gates ∷ outputs ∷ []) (now (out .entry)) ⌝ }
+{
+    out[0] = inputs;
+    out[1] = gates;
+    out[2] = outputs;
+}
+
+fn copy(from: &[u32], out: &mut [u32])
+    requires { ⌜ length (now from) ≤ length (now out) ⌝ }
+    ensures { λ r. ⌜ now (out .exit) ≡ over (now (from .entry)) (now (out .entry)) ⌝ }
+{
+    let mut i: usize = 0;
+    while i < from.len() {
+        out[i] = from[i];
+        i += 1;
+    }
+}
+
+// The glued netlist's words. The part after the first's gates is lent to the writer of the second.
+fn write(first: &[u32], second: &[u32], out: &mut [u32])
+    requires { ⌜ Fit (now first) (now second) (length (now out)) ⌝ }
+    ensures { λ r. ⌜ now (out .exit) ≡ over (gluedWords (now (first .entry)) (now (second .entry))) (now (out .entry)) ⌝ }
+{
+    let inputs = first[0];
+    let gates = first[1];
+    let at = 3 + 4 * (gates as usize);
+    put_header(out, inputs, gates + second[1], second[2]);
+    copy(&first[3..at], &mut out[3..]);
+    put_second(second, &first[at..], inputs + gates, &mut out[at..]);
+}
+
+fn judge(first: &[u32], second: &[u32], room: usize) -> Answer
+    ensures { λ r. ⌜ r ≡ glueAnswer (now (first .entry)) (now (second .entry)) room ⌝ }
+{
+    let r = netlist::check::check_as(first, 1);
+    let Answer::Done = r else {
+        return r;
+    };
+    let s = netlist::check::check_as(second, 2);
+    let Answer::Done = s else {
+        return s;
+    };
+    let gates = first[1] + second[1];
+    if room < 3 + 4 * (gates as usize) + second[2] as usize {
+        return Answer::Refused {
+            number: answer::ROOM,
+            list: 3,
+            place: room,
+        };
+    }
+    if first[2] != second[0] {
+        return Answer::Refused {
+            number: answer::FIT,
+            list: 0,
+            place: 0,
+        };
+    }
+    if netlist::GATE_LIMIT < gates {
+        return Answer::Refused {
+            number: answer::GATES,
+            list: 0,
+            place: 0,
+        };
+    }
+    Answer::Done
+}
+
+// The first netlist glued to the second.
+pub fn glue(first: &[u32], second: &[u32], out: &mut [u32]) -> Answer
+    ensures { λ r. ⌜ GluedAs (now (first .entry)) (now (second .entry)) (now (out .entry)) r (now (out .exit)) ⌝ }
+{
+    let r = judge(first, second, out.len());
+    let Answer::Done = r else {
+        return r;
+    };
+    write(first, second, out);
+    Answer::Done
+}

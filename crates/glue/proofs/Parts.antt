@@ -1,0 +1,134 @@
+-- Laws of the parts of a glued netlist.
+use Prim.Native.Nat.{ℕ, _+_, _-_, _*_, _<_, _≤_}
+use mathlib.Core.Path.{_≡_, refl, sym, ap, ap₂, _∙_}
+use mathlib.Core.List.{List, [], _∷_, _++_, map, append-nil, append-assoc}
+use native.Mathlib.Omega.{arith}
+use borrow.Rule.Slice.PartMut.{putMid, post-is}
+use lib.ListN.{length, getD, take, drop, length-append, length-map, length-drop, length-take}
+use lib.Seq.{sets, drop-length, take-all, getD-drop, take-at}
+use Rattle.answer.specs.Fronts.{over}
+use Rattle.answer.proofs.Over.{length-over, over-sets, over-tail}
+use Rattle.netlist.specs.declared.gate.Gate.{Gate}
+use Rattle.netlist.specs.Gates.{gateWords}
+use Rattle.netlist.specs.Net.{Uses, wiresOf}
+use Rattle.netlist.specs.Words.{inputsOf, gatesOf, outputsOf, gatePlace, gatesWords, gateAt, gatesAt, netOf, words}
+use Rattle.netlist.specs.Glue.{ren, thru, wireOf, glue}
+use Rattle.netlist.specs.Sound.{Sound}
+use Rattle.netlist.proofs.Gates.{gateWords-length}
+use Rattle.netlist.proofs.Sim.{each-map}
+use Rattle.netlist.proofs.Glued.{map-append, glue-gates, glue-outputs}
+use Rattle.netlist.proofs.Words.{gates-length, gates-snoc, gatesWords-length, gatesWords-append, gatesWords-snoc, outs-length, words-netOf}
+use Rattle.glue.specs.Glue.{gluedWords}
+use Rattle.glue.specs.Parts.{Small, SmallAll, secondWords, Second, Fit}
+
+-- The part of a slice from a on, when it is lent and when it is back.
+pub put-tail : (a : ℕ) (xs ys : List ℕ) → a ≤ length xs → putMid a (length xs - a) xs ys ≡ take a xs ++ ys
+put-tail a xs ys h = rw (post-is a (length xs) xs h, drop-length xs, append-nil ys)
+
+pub tail-is : (a : ℕ) (xs : List ℕ) → take (length xs - a) (drop a xs) ≡ drop a xs
+tail-is a xs = take-all (length xs - a) (drop a xs) (omega (arith, length-drop a xs))
+
+-- a part that was lent behind a front, and written from its start
+wrote-tail : (front w old : List ℕ) (n : ℕ) {out part : List ℕ} → length front ≡ n → n ≤ length old → out ≡ over front old → length out ≡ length old
+    → part ≡ over w (take (length out - n) (drop n out)) → putMid n (length out - n) out part ≡ over (front ++ w) old
+wrote-tail front w old n {out} {part} e h o k p =
+    put-tail n out part (omega arith)
+    ∙ ap (λ (t : List ℕ). take n out ++ t) (p ∙ ap (over w) (tail-is n out))
+    ∙ ap (λ (t : List ℕ). take n t ++ over w (drop n t)) o
+    ∙ over-tail front w old n e
+
+-- how much room the part from n on has
+pub tail-room : (n : ℕ) (out : List ℕ) → length (take (length out - n) (drop n out)) ≡ length out - n
+tail-room n out = ap length (tail-is n out) ∙ length-drop n out
+
+pub kept-length : (front old : List ℕ) {out : List ℕ} → out ≡ over front old → length front ≤ length old → length out ≡ length old
+kept-length front old e h = ap length e ∙ length-over front old h
+
+-- The gates of the second netlist.
+module _ (b outs : List ℕ) (base : ℕ) (old : List ℕ) where
+  abbrev pub written : ℕ → List ℕ
+  written g = gatesWords (map (ren (thru outs base)) (gatesAt b 3 g))
+
+  pub written-length : (g : ℕ) → length (written g) ≡ 4 * g
+  written-length g =
+      omega (arith, gatesWords-length (map (ren (thru outs base)) (gatesAt b 3 g)), length-map (gatesAt b 3 g) (ren (thru outs base)), gates-length b 3 g)
+
+  pub written-more : (g : ℕ) → 4 * g + 4 ≤ length old
+      → sets (over (written g) old) (4 * g) (gateWords (ren (thru outs base) (gateAt b (3 + 4 * g)))) ≡ over (written (g + 1)) old
+  written-more g h =
+      let f = ren (thru outs base) in
+      let d = f (gateAt b (3 + 4 * g)) in
+      over-sets (written g) (gateWords d) old (4 * g) (written-length g) (omega (arith, gateWords-length d))
+      ∙ ap (λ (t : List ℕ). over t old)
+      (sym (gatesWords-snoc (map f (gatesAt b 3 g)) d)
+      ∙ ap gatesWords (sym (map-append f (gatesAt b 3 g) _) ∙ ap (map f) (sym (gates-snoc b 3 g))))
+
+-- behind few wires the operands of a sound gate stay words
+pub small-gate : (b : List ℕ) (base room g : ℕ) → Second b base room → g < gatesOf b → Small base (gateAt b (3 + 4 * g))
+small-gate b base room g s h =
+    each-map (gateAt b (3 + 4 * g)) (λ a k. omega (arith, s .few, s .sound .limits)) (s .sound .uses g h)
+
+pub small-outs : (b : List ℕ) (base room : ℕ) → Second b base room → SmallAll base (drop (gatePlace (gatesOf b)) b)
+small-outs b base room s i h =
+    let k : i < outputsOf b = omega (arith, outs-length b (s .sound)) in
+    omega (arith, getD-drop (gatePlace (gatesOf b)) b i 0, s .sound .output i k, s .few, s .sound .limits)
+
+-- the gates, then the outputs in the part after them
+pub second-written : (b outs : List ℕ) (base : ℕ) (old : List ℕ) {out part : List ℕ} → 4 * gatesOf b ≤ length old → out ≡ over (written b outs base old (gatesOf b)) old
+    → part ≡ over (map (thru outs base) (take (length b - gatePlace (gatesOf b)) (drop (gatePlace (gatesOf b)) b))) (take (length out - 4 * gatesOf b) (drop (4 * gatesOf b) out))
+    → putMid (4 * gatesOf b) (length out - 4 * gatesOf b) out part ≡ over (secondWords b outs base) old
+unfolding secondWords
+second-written b outs base old {out} h o p =
+    let len : length (written b outs base old (gatesOf b)) ≡ 4 * gatesOf b = written-length b outs base old (gatesOf b) in
+    wrote-tail (written b outs base old (gatesOf b)) (map (thru outs base) (drop (gatePlace (gatesOf b)) b)) old (4 * gatesOf b) len h o
+    (kept-length _ old o (omega arith))
+    (p ∙ ap (λ (t : List ℕ). over (map (thru outs base) t) (take (length out - 4 * gatesOf b) (drop (4 * gatesOf b) out))) (tail-is (gatePlace (gatesOf b)) b))
+
+-- The whole: the header, the first netlist's gates, and what the second's writer writes.
+gate-part : (a : List ℕ) → Sound a → take (4 * gatesOf a) (drop 3 a) ≡ gatesWords (netOf a .gates)
+gate-part a s =
+    let w : words (netOf a) ≡ a = words-netOf a s in
+    let len : length (gatesWords (netOf a .gates)) ≡ 4 * gatesOf a = omega (arith, gatesWords-length (netOf a .gates), gates-length a 3 (gatesOf a)) in
+    ap (λ (t : List ℕ). take (4 * gatesOf a) (drop 3 t)) (sym w) ∙ take-at (gatesWords (netOf a .gates)) (netOf a .outs) (4 * gatesOf a) len
+
+second-part : (a b : List ℕ)
+    → secondWords b (netOf a .outs) (inputsOf a + gatesOf a) ≡ gatesWords (map (ren (wireOf (netOf a))) (netOf b .gates)) ++ glue (netOf a) (netOf b) .outs
+unfolding secondWords
+second-part a b =
+    let base : inputsOf a + gatesOf a ≡ wiresOf (netOf a) = omega (arith, gates-length a 3 (gatesOf a)) in
+    ap (secondWords b (netOf a .outs)) base
+
+pub glued-whole : (a b : List ℕ) (room : ℕ) → Fit a b room
+    → ((inputsOf a ∷ (gatesOf a + gatesOf b) ∷ outputsOf b ∷ []) ++ take (4 * gatesOf a) (drop 3 a)) ++ secondWords b (netOf a .outs) (inputsOf a + gatesOf a) ≡ gluedWords a b
+glued-whole a b room f =
+    let A = netOf a in
+    let B = netOf b in
+    let g : length (glue A B .gates) ≡ gatesOf a + gatesOf b = omega (arith, glue-gates A B, gates-length a 3 (gatesOf a), gates-length b 3 (gatesOf b)) in
+    let o : length (glue A B .outs) ≡ outputsOf b = glue-outputs A B ∙ outs-length b (f .second) in
+    rw (g, o, gatesWords-append (A .gates), gate-part a (f .first), second-part a b, append-assoc (gatesWords (A .gates)))
+
+-- the header, and the first netlist's gates in the part after it
+abbrev pub firstWords : List ℕ → List ℕ → List ℕ
+firstWords a b = (inputsOf a ∷ (gatesOf a + gatesOf b) ∷ outputsOf b ∷ []) ++ take (4 * gatesOf a) (drop 3 a)
+
+pub firstWords-length : (a b : List ℕ) → Sound a → length (firstWords a b) ≡ gatePlace (gatesOf a)
+firstWords-length a b s = omega (arith, length-take (4 * gatesOf a) (drop 3 a), length-drop 3 a, s .size)
+
+pub first-written : (a b old : List ℕ) {head part : List ℕ} → 3 ≤ length old → head ≡ over (inputsOf a ∷ (gatesOf a + gatesOf b) ∷ outputsOf b ∷ []) old
+    → part ≡ over (take (3 + 4 * gatesOf a - 3) (drop 3 a)) (take (length head - 3) (drop 3 head)) → putMid 3 (length head - 3) head part ≡ over (firstWords a b) old
+first-written a b old {head} h o p =
+    let e : 3 + 4 * gatesOf a - 3 ≡ 4 * gatesOf a = omega arith in
+    wrote-tail (inputsOf a ∷ (gatesOf a + gatesOf b) ∷ outputsOf b ∷ []) (take (4 * gatesOf a) (drop 3 a)) old 3 refl h o
+    (kept-length _ old o h)
+    (rw e at p)
+
+-- and all of it
+pub all-written : (a b old : List ℕ) {mid part : List ℕ} → Fit a b (length old) → mid ≡ over (firstWords a b) old
+    → part ≡ over (secondWords b (take (length a - gatePlace (gatesOf a)) (drop (gatePlace (gatesOf a)) a)) (inputsOf a + gatesOf a)) (take (length mid - gatePlace (gatesOf a)) (drop (gatePlace (gatesOf a)) mid))
+    → putMid (gatePlace (gatesOf a)) (length mid - gatePlace (gatesOf a)) mid part ≡ over (gluedWords a b) old
+all-written a b old {mid} f o p =
+    let len : length (firstWords a b) ≡ gatePlace (gatesOf a) = firstWords-length a b (f .first) in
+    wrote-tail (firstWords a b) (secondWords b (netOf a .outs) (inputsOf a + gatesOf a)) old (gatePlace (gatesOf a)) len (omega (arith, f .space)) o
+    (kept-length _ old o (omega (arith, f .space)))
+    (p ∙ ap (λ (t : List ℕ). over (secondWords b t (inputsOf a + gatesOf a)) (take (length mid - gatePlace (gatesOf a)) (drop (gatePlace (gatesOf a)) mid))) (tail-is (gatePlace (gatesOf a)) a))
+    ∙ ap (λ (t : List ℕ). over t old) (glued-whole a b (length old) f)

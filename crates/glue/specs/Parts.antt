@@ -1,0 +1,42 @@
+-- What the writers of the parts of a glued netlist are lent and write.
+use Prim.Native.Nat.{ℕ, _+_, _*_, _<_, _≤_}
+use mathlib.Core.Path.{_≡_}
+use mathlib.Core.List.{List, [], _∷_, _++_, map}
+use lib.ListN.{length, getD, drop}
+use Rattle.netlist.specs.declared.gate.Gate.{Gate}
+use Rattle.netlist.specs.Net.{Each}
+use Rattle.netlist.specs.Words.{inputsOf, gatesOf, outputsOf, gatePlace, gatesWords, gatesAt}
+use Rattle.netlist.specs.Glue.{ren, thru}
+use Rattle.netlist.specs.Check.{gateLimit}
+use Rattle.netlist.specs.Sound.{Sound}
+use Rattle.glue.specs.declared.Quad.{Quad}
+use Rattle.glue.specs.Glue.{gluedSize}
+
+abbrev pub quadWords : Quad → List ℕ
+quadWords q = q .kind ∷ q .a ∷ q .b ∷ q .c ∷ []
+
+-- behind base wires, the operands of a gate, or some wires, are still words
+abbrev pub Small : ℕ → Gate → Type 0
+Small base g = Each (λ a. base + a < 4294967296) g
+
+abbrev pub SmallAll : ℕ → List ℕ → Type 0
+SmallAll base wires = (i : ℕ) → i < length wires → base + getD wires i 0 < 4294967296
+
+-- the second netlist's gates and then its outputs, over the wires of the glued one
+unfoldable pub secondWords : List ℕ → List ℕ → ℕ → List ℕ
+secondWords b outs base =
+    gatesWords (map (ren (thru outs base)) (gatesAt b 3 (gatesOf b))) ++ map (thru outs base) (drop (gatePlace (gatesOf b)) b)
+
+-- a sound second netlist behind base wires, and room for its gates and outputs
+pub record Second (b : List ℕ) (base room : ℕ) : Type 0 where
+  pub sound : Sound b
+  pub few : base < 1000000
+  pub space : 4 * gatesOf b + outputsOf b ≤ room
+
+-- two sound netlists that fit, and room for the glued one
+pub record Fit (a b : List ℕ) (room : ℕ) : Type 0 where
+  pub first : Sound a
+  pub second : Sound b
+  pub space : gluedSize a b ≤ room
+  pub fits : outputsOf a ≡ inputsOf b
+  pub few : gatesOf a + gatesOf b ≤ gateLimit

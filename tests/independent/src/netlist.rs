@@ -1,0 +1,313 @@
+//! Check, evaluation, metering and gluing of netlists.
+//!
+//! A netlist is a list of words: inputs I, gates G, outputs O, then four words
+//! a gate (kind, a, b, c), then the O output wires. Wires 0..I-1 are inputs,
+//! the gates follow in order.
+
+#![forbid(unsafe_code)]
+
+pub const MAX_INPUTS: usize = 32_768;
+pub const MAX_GATES: usize = 262_144;
+pub const MAX_OUTPUTS: usize = 4_096;
+
+/// The three counts stand before the gates.
+pub const HEADER: usize = 3;
+
+pub const ZERO: u32 = 0;
+pub const ONE: u32 = 1;
+pub const NOT: u32 = 2;
+pub const XOR: u32 = 3;
+pub const AND: u32 = 4;
+pub const MUX: u32 = 5;
+
+/// What a call answers; all 0 means done.
+#[derive(Clone, Copy, Debug, PartialEq, Eq)]
+pub struct Answer {
+    pub number: u32,
+    pub list: u32,
+    pub place: usize,
+}
+
+impl Answer {
+    pub const DONE: Answer = Answer::new(0, 0, 0);
+    pub const COUNTS_DIFFER: Answer = Answer::new(10, 0, 0);
+    pub const TOO_MANY_GATES: Answer = Answer::new(11, 0, 0);
+
+    pub const fn new(number: u32, list: u32, place: usize) -> Self {
+        Answer {
+            number,
+            list,
+            place,
+        }
+    }
+
+    pub const fn wrong_length(list: u32, length: usize) -> Self {
+        Answer::new(3, list, length)
+    }
+
+    pub const fn not_a_bit(list: u32, place: usize) -> Self {
+        Answer::new(4, list, place)
+    }
+
+    pub const fn too_short(list: u32, length: usize) -> Self {
+        Answer::new(8, list, length)
+    }
+
+    pub const fn broken_netlist(list: u32, place: usize) -> Self {
+        Answer::new(9, list, place)
+    }
+}
+
+impl From<Result<(), Answer>> for Answer {
+    fn from(result: Result<(), Answer>) -> Self {
+        result.err().unwrap_or(Answer::DONE)
+    }
+}
+
+/// What the meter answers.
+#[derive(Clone, Copy, Debug, PartialEq, Eq)]
+pub struct Metering {
+    pub answer: Answer,
+    pub depth: u32,
+    pub multiplications: u32,
+}
+
+/// How many operands each kind uses, by its code.
+pub const ARITY: [usize; 6] = [0, 0, 1, 2, 2, 3];
+
+/// The value of each kind, by its code: bit a + 2b + 4c of it is the value on
+/// a, b, c.
+const TRUTH: [u8; 6] = [
+    0b0000_0000, // ZERO
+    0b1111_1111, // ONE
+    0b0101_0101, // NOT a
+    0b0110_0110, // XOR a b
+    0b1000_1000, // AND a b
+    0b1110_0100, // MUX a b c: b if a is 0, c if a is 1
+];
+
+/// A sound netlist, seen in its words.
+struct Netlist<'a> {
+    inputs: usize,
+    gates: &'a [[u32; 4]],
+    outputs: &'a [u32],
+}
+
+impl<'a> Netlist<'a> {
+    /// The netlist in `words`, or the place of the first broken rule.
+    fn parse(words: &'a [u32]) -> Result<Self, usize> {
+        let &[inputs, gates, outputs, ref body @ ..] = words else {
+            return Err(words.len());
+        };
+        let (inputs, gates, outputs) = (inputs as usize, gates as usize, outputs as usize);
+        if inputs > MAX_INPUTS {
+            return Err(0);
+        }
+        if gates > MAX_GATES {
+            return Err(1);
+        }
+        if outputs > MAX_OUTPUTS {
+            return Err(2);
+        }
+        if body.len() != 4 * gates + outputs {
+            return Err(words.len());
+        }
+        let (gate_words, outputs) = body.split_at(4 * gates);
+        let (gates, _) = gate_words.as_chunks::<4>();
+
+        for (g, gate) in gates.iter().enumerate() {
+            if let Some(fault) = gate_fault(gate, inputs + g) {
+                return Err(HEADER + 4 * g + fault);
+            }
+        }
+        let netlist = Netlist {
+            inputs,
+            gates,
+            outputs,
+        };
+        match outputs.iter().position(|&w| w as usize >= netlist.wires()) {
+            Some(o) => Err(HEADER + 4 * gates.len() + o),
+            None => Ok(netlist),
+        }
+    }
+
+    /// The netlist lent as `list` of a call.
+    fn lent(words: &'a [u32], list: u32) -> Result<Self, Answer> {
+        Self::parse(words).map_err(|place| Answer::broken_netlist(list, place))
+    }
+
+    fn wires(&self) -> usize {
+        self.inputs + self.gates.len()
+    }
+}
+
+/// The first word at fault in the gate that gives `wire`.
+#[inline]
+fn gate_fault(&[kind, a, b, c]: &[u32; 4], wire: usize) -> Option<usize> {
+    let Some(&used) = ARITY.get(kind as usize) else {
+        return Some(0);
+    };
+    // A used operand is an earlier wire; an unused one is 0, that is below 1.
+    let bound = |operand| if operand <= used { wire } else { 1 };
+    if a as usize >= bound(1) {
+        Some(1)
+    } else if b as usize >= bound(2) {
+        Some(2)
+    } else if c as usize >= bound(3) {
+        Some(3)
+    } else {
+        None
+    }
+}
+
+/// Whether `net` (list 1) keeps the netlist rules.
+pub fn check(net: &[u32]) -> Answer {
+    Netlist::lent(net, 1).map(|_| ()).into()
+}
+
+/// Runs `net` (list 1) on `inputs` (2): a value for every wire goes to the
+/// front of `values` (3), the outputs to the front of `outputs` (4).
+pub fn evaluate(net: &[u32], inputs: &[u8], values: &mut [u8], outputs: &mut [u8]) -> Answer {
+    try_evaluate(net, inputs, values, outputs).into()
+}
+
+fn try_evaluate(
+    net: &[u32],
+    inputs: &[u8],
+    values: &mut [u8],
+    outputs: &mut [u8],
+) -> Result<(), Answer> {
+    let net = Netlist::lent(net, 1)?;
+    if inputs.len() != net.inputs {
+        return Err(Answer::wrong_length(2, inputs.len()));
+    }
+    if let Some(place) = inputs.iter().position(|&bit| bit > 1) {
+        return Err(Answer::not_a_bit(2, place));
+    }
+    let room = values.len();
+    let values = values
+        .get_mut(..net.wires())
+        .ok_or(Answer::too_short(3, room))?;
+    let room = outputs.len();
+    let outputs = outputs
+        .get_mut(..net.outputs.len())
+        .ok_or(Answer::too_short(4, room))?;
+
+    values[..net.inputs].copy_from_slice(inputs);
+    for (g, &[kind, a, b, c]) in net.gates.iter().enumerate() {
+        // An unused operand reads wire 0. Where that is not yet set, it may
+        // hold any byte, hence the mask.
+        let value = |wire| values[wire as usize];
+        let row = (value(a) | value(b) << 1 | value(c) << 2) & 7;
+        values[net.inputs + g] = TRUTH[kind as usize] >> row & 1;
+    }
+    for (output, &wire) in outputs.iter_mut().zip(net.outputs) {
+        *output = values[wire as usize];
+    }
+    Ok(())
+}
+
+/// Measures `net` (list 1): the depth of every wire goes to the front of
+/// `depths` (2); how many AND and MUX gates have each depth goes to the fronts
+/// of `ands` and `muxes` (both list 3).
+///
+/// The depths are filled even where the lists of levels are too short.
+pub fn meter(net: &[u32], depths: &mut [u32], ands: &mut [u32], muxes: &mut [u32]) -> Metering {
+    try_meter(net, depths, ands, muxes).unwrap_or_else(|answer| Metering {
+        answer,
+        depth: 0,
+        multiplications: 0,
+    })
+}
+
+fn try_meter(
+    net: &[u32],
+    depths: &mut [u32],
+    ands: &mut [u32],
+    muxes: &mut [u32],
+) -> Result<Metering, Answer> {
+    let net = Netlist::lent(net, 1)?;
+    let room = depths.len();
+    let depths = depths
+        .get_mut(..net.wires())
+        .ok_or(Answer::too_short(2, room))?;
+
+    // An unused operand names wire 0, an input or a constant: its depth is 0,
+    // and it never is the larger one.
+    depths[..net.wires().min(net.inputs.max(1))].fill(0);
+    let mut deepest = 0;
+    let mut multiplications = 0;
+    for (g, &[kind, a, b, c]) in net.gates.iter().enumerate() {
+        let operand = |wire| depths[wire as usize];
+        let multiplies = u32::from(matches!(kind, AND | MUX));
+        let depth = operand(a).max(operand(b)).max(operand(c)) + multiplies;
+        depths[net.inputs + g] = depth;
+        deepest = deepest.max(depth);
+        multiplications += multiplies;
+    }
+
+    let levels = deepest as usize + 1;
+    let room = ands.len();
+    let ands = ands.get_mut(..levels).ok_or(Answer::too_short(3, room))?;
+    let room = muxes.len();
+    let muxes = muxes.get_mut(..levels).ok_or(Answer::too_short(3, room))?;
+
+    ands.fill(0);
+    muxes.fill(0);
+    for (gate, &depth) in net.gates.iter().zip(&depths[net.inputs..]) {
+        ands[depth as usize] += u32::from(gate[0] == AND);
+        muxes[depth as usize] += u32::from(gate[0] == MUX);
+    }
+    let depth = net.outputs.iter().map(|&wire| depths[wire as usize]).max();
+    Ok(Metering {
+        answer: Answer::DONE,
+        depth: depth.unwrap_or(0),
+        multiplications,
+    })
+}
+
+/// Writes to the front of `out` (list 3) the netlist that runs `first` (1) and
+/// then `second` (2) on its outputs.
+pub fn glue(first: &[u32], second: &[u32], out: &mut [u32]) -> Answer {
+    try_glue(first, second, out).into()
+}
+
+fn try_glue(first: &[u32], second: &[u32], out: &mut [u32]) -> Result<(), Answer> {
+    let first = Netlist::lent(first, 1)?;
+    let second = Netlist::lent(second, 2)?;
+    let gates = first.gates.len() + second.gates.len();
+    let room = out.len();
+    let out = out
+        .get_mut(..HEADER + 4 * gates + second.outputs.len())
+        .ok_or(Answer::too_short(3, room))?;
+    if first.outputs.len() != second.inputs {
+        return Err(Answer::COUNTS_DIFFER);
+    }
+    if gates > MAX_GATES {
+        return Err(Answer::TOO_MANY_GATES);
+    }
+
+    let (counts, body) = out.split_at_mut(HEADER);
+    let (gate_words, outputs) = body.split_at_mut(4 * gates);
+    let (gate_words, _) = gate_words.as_chunks_mut::<4>();
+    let (front, back) = gate_words.split_at_mut(first.gates.len());
+    // What a wire of the second is called in the result.
+    let rename = |wire: u32| match first.outputs.get(wire as usize) {
+        Some(&output) => output,
+        None => wire - second.inputs as u32 + first.wires() as u32,
+    };
+
+    counts[0] = first.inputs as u32;
+    counts[1] = gates as u32;
+    counts[2] = second.outputs.len() as u32;
+    front.copy_from_slice(first.gates);
+    for (to, &[kind, a, b, c]) in back.iter_mut().zip(second.gates) {
+        let used = ARITY[kind as usize];
+        let operand = |number, wire| if number <= used { rename(wire) } else { 0 };
+        *to = [kind, operand(1, a), operand(2, b), operand(3, c)];
+    }
+    for (to, &wire) in outputs.iter_mut().zip(second.outputs) {
+        *to = rename(wire);
+    }
+    Ok(())
+}

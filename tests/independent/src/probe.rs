@@ -1,0 +1,129 @@
+//! The library under test, through its C interface: a list goes over as its
+//! first place and its length.
+
+use crate::netlist::{Answer, Metering};
+
+#[repr(C)]
+struct RawReply {
+    number: u32,
+    list: u32,
+    place: usize,
+}
+
+#[repr(C)]
+struct RawMetering {
+    number: u32,
+    list: u32,
+    place: usize,
+    depth: u32,
+    multiplications: u32,
+}
+
+extern "C" {
+    fn probe_check(net: *const u32, net_length: usize) -> RawReply;
+
+    fn probe_evaluate(
+        net: *const u32,
+        net_length: usize,
+        inputs: *const u8,
+        inputs_length: usize,
+        values: *mut u8,
+        values_length: usize,
+        outputs: *mut u8,
+        outputs_length: usize,
+    ) -> RawReply;
+
+    fn probe_meter(
+        net: *const u32,
+        net_length: usize,
+        depths: *mut u32,
+        depths_length: usize,
+        ands: *mut u32,
+        ands_length: usize,
+        muxes: *mut u32,
+        muxes_length: usize,
+    ) -> RawMetering;
+
+    fn probe_glue(
+        first: *const u32,
+        first_length: usize,
+        second: *const u32,
+        second_length: usize,
+        out: *mut u32,
+        out_length: usize,
+    ) -> RawReply;
+}
+
+impl From<RawReply> for Answer {
+    fn from(raw: RawReply) -> Self {
+        Answer {
+            number: raw.number,
+            list: raw.list,
+            place: raw.place,
+        }
+    }
+}
+
+pub fn check(net: &[u32]) -> Answer {
+    // SAFETY: the library reads the lent list within its length and keeps
+    // nothing of it. The same holds for all the calls below, which also write
+    // within the lengths of the lists lent for writing.
+    unsafe { probe_check(net.as_ptr(), net.len()) }.into()
+}
+
+pub fn evaluate(net: &[u32], inputs: &[u8], values: &mut [u8], outputs: &mut [u8]) -> Answer {
+    // SAFETY: as in `check`.
+    unsafe {
+        probe_evaluate(
+            net.as_ptr(),
+            net.len(),
+            inputs.as_ptr(),
+            inputs.len(),
+            values.as_mut_ptr(),
+            values.len(),
+            outputs.as_mut_ptr(),
+            outputs.len(),
+        )
+    }
+    .into()
+}
+
+pub fn meter(net: &[u32], depths: &mut [u32], ands: &mut [u32], muxes: &mut [u32]) -> Metering {
+    // SAFETY: as in `check`.
+    let raw = unsafe {
+        probe_meter(
+            net.as_ptr(),
+            net.len(),
+            depths.as_mut_ptr(),
+            depths.len(),
+            ands.as_mut_ptr(),
+            ands.len(),
+            muxes.as_mut_ptr(),
+            muxes.len(),
+        )
+    };
+    Metering {
+        answer: Answer {
+            number: raw.number,
+            list: raw.list,
+            place: raw.place,
+        },
+        depth: raw.depth,
+        multiplications: raw.multiplications,
+    }
+}
+
+pub fn glue(first: &[u32], second: &[u32], out: &mut [u32]) -> Answer {
+    // SAFETY: as in `check`.
+    unsafe {
+        probe_glue(
+            first.as_ptr(),
+            first.len(),
+            second.as_ptr(),
+            second.len(),
+            out.as_mut_ptr(),
+            out.len(),
+        )
+    }
+    .into()
+}

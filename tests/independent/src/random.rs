@@ -1,0 +1,80 @@
+//! A small deterministic generator of numbers (splitmix64): the same seed
+//! gives the same cases everywhere.
+
+pub struct Random(u64);
+
+impl Random {
+    pub fn new(seed: u64) -> Self {
+        Random(seed)
+    }
+
+    pub fn draw(&mut self) -> u64 {
+        self.0 = self.0.wrapping_add(0x9E37_79B9_7F4A_7C15);
+        let mut z = self.0;
+        z = (z ^ (z >> 30)).wrapping_mul(0xBF58_476D_1CE4_E5B9);
+        z = (z ^ (z >> 27)).wrapping_mul(0x94D0_49BB_1331_11EB);
+        z ^ (z >> 31)
+    }
+
+    pub fn word(&mut self) -> u32 {
+        (self.draw() >> 32) as u32
+    }
+
+    /// A number below `bound`, which is not 0. The bias is far too small to
+    /// matter here.
+    pub fn below(&mut self, bound: usize) -> usize {
+        ((u128::from(self.draw()) * bound as u128) >> 64) as usize
+    }
+
+    /// A number from `low` up to `high`, both included.
+    pub fn between(&mut self, low: usize, high: usize) -> usize {
+        low + self.below(high - low + 1)
+    }
+
+    /// True in `percent` of a hundred cases.
+    pub fn chance(&mut self, percent: usize) -> bool {
+        self.below(100) < percent
+    }
+
+    pub fn pick<T: Copy>(&mut self, choices: &[T]) -> T {
+        choices[self.below(choices.len())]
+    }
+
+    /// A place in `weights`, as likely as its weight.
+    pub fn weighted(&mut self, weights: &[u32]) -> usize {
+        let total: u32 = weights.iter().sum();
+        let mut left = self.below(total as usize) as u32;
+        for (place, &weight) in weights.iter().enumerate() {
+            if left < weight {
+                return place;
+            }
+            left -= weight;
+        }
+        unreachable!("the weights are not all 0")
+    }
+}
+
+/// What a list can be filled with: any content at all.
+pub trait Arbitrary: Copy {
+    fn arbitrary(random: &mut Random) -> Self;
+}
+
+impl Arbitrary for u8 {
+    fn arbitrary(random: &mut Random) -> Self {
+        (random.draw() >> 56) as u8
+    }
+}
+
+impl Arbitrary for u32 {
+    fn arbitrary(random: &mut Random) -> Self {
+        random.word()
+    }
+}
+
+pub fn fill<T: Arbitrary>(random: &mut Random, length: usize) -> Vec<T> {
+    (0..length).map(|_| T::arbitrary(random)).collect()
+}
+
+pub fn bits(random: &mut Random, length: usize) -> Vec<u8> {
+    (0..length).map(|_| (random.draw() >> 63) as u8).collect()
+}

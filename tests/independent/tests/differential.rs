@@ -1,0 +1,1488 @@
+//! Hands the library and the Rust program the same lists, sound and damaged,
+//! and compares the whole answer and every lent list. Cases whose answer is
+//! known beforehand, by hand or from the way they were made, are held to that
+//! too.
+
+use independent::cases::{self, Fault, Shape, FAULTS};
+use independent::netlist::{
+    self, Answer, Metering, AND, HEADER, MAX_GATES, MAX_INPUTS, MAX_OUTPUTS, MUX, NOT, ONE, XOR,
+    ZERO,
+};
+use independent::probe;
+use independent::random::{bits, fill, Arbitrary, Random};
+use std::collections::BTreeMap;
+use std::fmt::Debug;
+use std::hint::black_box;
+
+/// Random cases of each of the four calls.
+const CASES: usize = 250_000;
+
+/// Another seed gives other cases.
+fn seeded(test: u64) -> Random {
+    let seed = match std::env::var("INDEPENDENT_SEED") {
+        Ok(seed) => seed.parse().expect("INDEPENDENT_SEED is a number"),
+        Err(_) => 1,
+    };
+    Random::new(test << 32 ^ seed)
+}
+
+/// A list lent to both programs, each having its own copy between margins that
+/// show a write outside it.
+struct Lent<T> {
+    before: Vec<T>,
+    library: Vec<T>,
+    rust: Vec<T>,
+}
+
+const MARGIN: usize = 8;
+
+impl<T: Arbitrary + Debug + PartialEq> Lent<T> {
+    fn new(content: &[T]) -> Self {
+        let mut random = Random::new(content.len() as u64);
+        let mut before = fill(&mut random, MARGIN);
+        before.extend_from_slice(content);
+        before.extend(fill::<T>(&mut random, MARGIN));
+        Lent {
+            library: before.clone(),
+            rust: before.clone(),
+            before,
+        }
+    }
+
+    fn between(&self) -> std::ops::Range<usize> {
+        MARGIN..self.before.len() - MARGIN
+    }
+
+    fn library(&mut self) -> &mut [T] {
+        let range = self.between();
+        &mut self.library[range]
+    }
+
+    fn rust(&mut self) -> &mut [T] {
+        let range = self.between();
+        &mut self.rust[range]
+    }
+
+    /// Both copies are alike, and as before but for the first `written`.
+    fn settle(self, written: usize, what: &str, case: &dyn Fn() -> String) -> Vec<T> {
+        let library = black_box(&self.library);
+        if *library != self.rust {
+            let at = (0..library.len()).find(|&at| library[at] != self.rust[at]);
+            let at = at.expect("they differ somewhere");
+            panic!(
+                "{what} differ at {}: library {:?}, rust {:?}; {}",
+                at as isize - MARGIN as isize,
+                library[at],
+                self.rust[at],
+                case()
+            );
+        }
+        assert!(
+            library[..MARGIN] == self.before[..MARGIN],
+            "a write before the {what}; {}",
+            case()
+        );
+        assert!(
+            library[MARGIN + written..] == self.before[MARGIN + written..],
+            "a write in the {what} beyond the first {written}; {}",
+            case()
+        );
+        self.library[self.between()].to_vec()
+    }
+}
+
+/// A list as it stands in a message.
+fn show<T: Debug>(list: &[T]) -> String {
+    if list.len() <= 120 {
+        format!("{list:?}")
+    } else {
+        format!("({} long)", list.len())
+    }
+}
+
+/// What an evaluation left behind; the other calls alike.
+struct Evaluated {
+    answer: Answer,
+    values: Vec<u8>,
+    outputs: Vec<u8>,
+}
+
+struct Metered {
+    metering: Metering,
+    depths: Vec<u32>,
+    ands: Vec<u32>,
+    muxes: Vec<u32>,
+}
+
+struct Glued {
+    answer: Answer,
+    out: Vec<u32>,
+}
+
+fn check(net: &[u32]) -> Answer {
+    let case = || format!("check of {}", show(net));
+    let mut lent = Lent::new(net);
+    let library = probe::check(lent.library());
+    let rust = netlist::check(lent.rust());
+    assert_eq!(library, rust, "library, rust; {}", case());
+    lent.settle(0, "words", &case);
+    rust
+}
+
+fn evaluate(net: &[u32], inputs: &[u8], values: &[u8], outputs: &[u8]) -> Evaluated {
+    let case = || {
+        format!(
+            "evaluation of {} on {}, {} values, {} outputs",
+            show(net),
+            show(inputs),
+            values.len(),
+            outputs.len()
+        )
+    };
+    let (mut net_lent, mut inputs_lent) = (Lent::new(net), Lent::new(inputs));
+    let (mut values, mut outputs) = (Lent::new(values), Lent::new(outputs));
+    let library = probe::evaluate(
+        net_lent.library(),
+        inputs_lent.library(),
+        values.library(),
+        outputs.library(),
+    );
+    let rust = netlist::evaluate(
+        net_lent.rust(),
+        inputs_lent.rust(),
+        values.rust(),
+        outputs.rust(),
+    );
+    assert_eq!(library, rust, "library, rust; {}", case());
+    let (wires, outs) = if rust == Answer::DONE {
+        ((net[0] + net[1]) as usize, net[2] as usize)
+    } else {
+        (0, 0)
+    };
+    net_lent.settle(0, "words", &case);
+    inputs_lent.settle(0, "inputs", &case);
+    Evaluated {
+        answer: rust,
+        values: values.settle(wires, "values", &case),
+        outputs: outputs.settle(outs, "outputs", &case),
+    }
+}
+
+fn meter(net: &[u32], depths: &[u32], ands: &[u32], muxes: &[u32]) -> Metered {
+    let case = || {
+        format!(
+            "metering of {}, {} depths, {} levels of AND, {} of MUX",
+            show(net),
+            depths.len(),
+            ands.len(),
+            muxes.len()
+        )
+    };
+    let mut net_lent = Lent::new(net);
+    let (mut depths, mut ands, mut muxes) = (Lent::new(depths), Lent::new(ands), Lent::new(muxes));
+    let library = probe::meter(
+        net_lent.library(),
+        depths.library(),
+        ands.library(),
+        muxes.library(),
+    );
+    let rust = netlist::meter(net_lent.rust(), depths.rust(), ands.rust(), muxes.rust());
+    assert_eq!(library, rust, "library, rust; {}", case());
+    let done = rust.answer == Answer::DONE;
+    if !done {
+        assert_eq!((rust.depth, rust.multiplications), (0, 0), "{}", case());
+    }
+    // The one list that a refusal may fill.
+    let wires = if done || (rust.answer.number, rust.answer.list) == (8, 3) {
+        (net[0] + net[1]) as usize
+    } else {
+        0
+    };
+    net_lent.settle(0, "words", &case);
+    let depths = depths.settle(wires, "depths", &case);
+    let levels = if done {
+        1 + depths[net[0] as usize..wires].iter().max().unwrap_or(&0)
+    } else {
+        0
+    };
+    Metered {
+        metering: rust,
+        depths,
+        ands: ands.settle(levels as usize, "AND levels", &case),
+        muxes: muxes.settle(levels as usize, "MUX levels", &case),
+    }
+}
+
+fn glue(first: &[u32], second: &[u32], out: &[u32]) -> Glued {
+    let case = || {
+        format!(
+            "gluing of {} and {}, {} words of room",
+            show(first),
+            show(second),
+            out.len()
+        )
+    };
+    let (mut first_lent, mut second_lent) = (Lent::new(first), Lent::new(second));
+    let mut out = Lent::new(out);
+    let library = probe::glue(first_lent.library(), second_lent.library(), out.library());
+    let rust = netlist::glue(first_lent.rust(), second_lent.rust(), out.rust());
+    assert_eq!(library, rust, "library, rust; {}", case());
+    first_lent.settle(0, "first words", &case);
+    second_lent.settle(0, "second words", &case);
+    let written = if rust == Answer::DONE {
+        glued_length(first, second)
+    } else {
+        0
+    };
+    Glued {
+        answer: rust,
+        out: out.settle(written, "result", &case),
+    }
+}
+
+fn glued_length(first: &[u32], second: &[u32]) -> usize {
+    HEADER + 4 * (first[1] as usize + second[1] as usize) + second[2] as usize
+}
+
+/// The glued netlist, where there is one.
+fn glued(first: &[u32], second: &[u32]) -> Vec<u32> {
+    let result = glue(first, second, &vec![7; glued_length(first, second)]);
+    assert_eq!(result.answer, Answer::DONE);
+    result.out
+}
+
+/// The outputs on those inputs.
+fn run(net: &[u32], inputs: &[u8]) -> Vec<u8> {
+    let wires = (net[0] + net[1]) as usize;
+    let result = evaluate(net, inputs, &vec![9; wires], &vec![9; net[2] as usize]);
+    assert_eq!(result.answer, Answer::DONE);
+    result.outputs
+}
+
+/// Metering with room for whatever depth.
+fn metered(net: &[u32]) -> Metering {
+    let levels = vec![3; net[1] as usize + 1];
+    let depths = vec![3; (net[0] + net[1]) as usize];
+    let metering = meter(net, &depths, &levels, &levels).metering;
+    assert_eq!(metering.answer, Answer::DONE);
+    metering
+}
+
+// ---- by hand ----
+
+/// At least 2 of 3: NOT 0, MUX 1 0 3, AND 0 1, AND 4 2, XOR 6 5; output 7.
+const THRESHOLD: [u32; 24] = [
+    3, 5, 1, //
+    NOT, 0, 0, 0, //
+    MUX, 1, 0, 3, //
+    AND, 0, 1, 0, //
+    AND, 4, 2, 0, //
+    XOR, 6, 5, 0, //
+    7,
+];
+
+/// Inverts its only input.
+const INVERTER: [u32; 8] = [1, 1, 1, NOT, 0, 0, 0, 1];
+
+fn refusal(number: u32, list: u32, place: usize) -> Answer {
+    Answer::new(number, list, place)
+}
+
+#[test]
+fn threshold_two_of_three() {
+    assert_eq!(check(&THRESHOLD), Answer::DONE);
+
+    let result = evaluate(&THRESHOLD, &[0, 1, 1], &[9; 10], &[9; 3]);
+    assert_eq!(result.answer, Answer::DONE);
+    assert_eq!(result.values, [0, 1, 1, 1, 1, 0, 1, 1, 9, 9]);
+    assert_eq!(result.outputs, [1, 9, 9]);
+
+    let result = evaluate(&THRESHOLD, &[1, 0, 0], &[9; 8], &[9; 1]);
+    assert_eq!(result.answer, Answer::DONE);
+    assert_eq!(result.values, [1, 0, 0, 0, 1, 0, 0, 0]);
+    assert_eq!(result.outputs, [0]);
+
+    for (inputs, output) in [
+        ([0, 0, 0], 0),
+        ([0, 0, 1], 0),
+        ([0, 1, 0], 0),
+        ([0, 1, 1], 1),
+        ([1, 0, 0], 0),
+        ([1, 0, 1], 1),
+        ([1, 1, 0], 1),
+        ([1, 1, 1], 1),
+    ] {
+        assert_eq!(run(&THRESHOLD, &inputs), [output]);
+    }
+
+    let result = meter(&THRESHOLD, &[9; 9], &[9; 4], &[9; 5]);
+    assert_eq!(
+        result.metering,
+        Metering {
+            answer: Answer::DONE,
+            depth: 2,
+            multiplications: 3,
+        }
+    );
+    assert_eq!(result.depths, [0, 0, 0, 0, 1, 1, 2, 2, 9]);
+    assert_eq!(result.ands, [0, 1, 1, 9]);
+    assert_eq!(result.muxes, [0, 1, 0, 9, 9]);
+}
+
+/// The first data wire of a MUX is taken at 0, the second at 1: exchanged,
+/// this fails on 1, 0.
+#[test]
+fn one_hot_of_two() {
+    let one_hot = [
+        2, 5, 3, //
+        NOT, 0, 0, 0, //
+        NOT, 1, 0, 0, //
+        AND, 2, 3, 0, //
+        MUX, 1, 0, 2, //
+        AND, 0, 1, 0, //
+        4, 5, 6,
+    ];
+    assert_eq!(run(&one_hot, &[0, 0]), [1, 0, 0]);
+    assert_eq!(run(&one_hot, &[1, 0]), [0, 1, 0]);
+    assert_eq!(run(&one_hot, &[0, 1]), [0, 1, 0]);
+    assert_eq!(run(&one_hot, &[1, 1]), [0, 0, 1]);
+}
+
+#[test]
+fn every_kind_on_every_value() {
+    let net = [
+        3, 6, 6, //
+        ZERO, 0, 0, 0, //
+        ONE, 0, 0, 0, //
+        NOT, 2, 0, 0, //
+        XOR, 2, 1, 0, //
+        AND, 2, 1, 0, //
+        MUX, 2, 1, 0, //
+        3, 4, 5, 6, 7, 8,
+    ];
+    // On wires 0, 1, 2: 0, 1, NOT 2, 2 XOR 1, 2 AND 1, and 1 or 0 as 2 says.
+    for (inputs, outputs) in [
+        ([0, 0, 0], [0, 1, 1, 0, 0, 0]),
+        ([0, 0, 1], [0, 1, 0, 1, 0, 0]),
+        ([0, 1, 0], [0, 1, 1, 1, 0, 1]),
+        ([0, 1, 1], [0, 1, 0, 0, 1, 0]),
+        ([1, 0, 0], [0, 1, 1, 0, 0, 0]),
+        ([1, 0, 1], [0, 1, 0, 1, 0, 1]),
+        ([1, 1, 0], [0, 1, 1, 1, 0, 1]),
+        ([1, 1, 1], [0, 1, 0, 0, 1, 1]),
+    ] {
+        assert_eq!(run(&net, &inputs), outputs);
+    }
+    let result = meter(&net, &[9; 9], &[9; 2], &[9; 2]);
+    assert_eq!(result.metering.depth, 1);
+    assert_eq!(result.metering.multiplications, 2);
+    assert_eq!(result.depths, [0, 0, 0, 0, 0, 0, 0, 1, 1]);
+    assert_eq!((result.ands, result.muxes), (vec![0, 1], vec![0, 1]));
+}
+
+#[test]
+fn one_wire_pass_through() {
+    let net = [1, 0, 1, 0];
+    assert_eq!(cases::pass_through(1), net);
+    assert_eq!(check(&net), Answer::DONE);
+    for bit in [0, 1] {
+        let result = evaluate(&net, &[bit], &[9; 2], &[9; 2]);
+        assert_eq!(result.answer, Answer::DONE);
+        assert_eq!(
+            (result.values, result.outputs),
+            (vec![bit, 9], vec![bit, 9])
+        );
+    }
+    let result = meter(&net, &[9; 2], &[9; 2], &[9; 2]);
+    assert_eq!(result.metering.answer, Answer::DONE);
+    assert_eq!(result.metering.depth, 0);
+    assert_eq!(result.metering.multiplications, 0);
+    assert_eq!(result.depths, [0, 9]);
+    assert_eq!((result.ands, result.muxes), (vec![0, 9], vec![0, 9]));
+}
+
+/// Three words, no wire at all; one level is counted all the same.
+#[test]
+fn empty_netlist() {
+    let net = [0, 0, 0];
+    assert_eq!(check(&net), Answer::DONE);
+    let result = evaluate(&net, &[], &[], &[]);
+    assert_eq!(result.answer, Answer::DONE);
+    let result = evaluate(&net, &[0], &[], &[]);
+    assert_eq!(result.answer, refusal(3, 2, 1));
+    let result = meter(&net, &[], &[9], &[9]);
+    assert_eq!(result.metering.answer, Answer::DONE);
+    assert_eq!((result.ands, result.muxes), (vec![0], vec![0]));
+    let result = meter(&net, &[], &[], &[9]);
+    assert_eq!(result.metering.answer, refusal(8, 3, 0));
+    let result = glue(&net, &net, &[9; 4]);
+    assert_eq!(result.answer, Answer::DONE);
+    assert_eq!(result.out, [0, 0, 0, 9]);
+}
+
+/// Without inputs the first gate is a constant, and what stood in the lists
+/// before is of no account.
+#[test]
+fn constants_alone() {
+    let net = [0, 3, 1, ONE, 0, 0, 0, ZERO, 0, 0, 0, MUX, 0, 0, 1, 2];
+    for stale in [0, 1, 2, 255] {
+        let result = evaluate(&net, &[], &[stale; 4], &[stale; 2]);
+        assert_eq!(result.answer, Answer::DONE);
+        assert_eq!(result.values, [1, 0, 0, stale]);
+        assert_eq!(result.outputs, [0, stale]);
+    }
+    for stale in [0, 1, 77, u32::MAX] {
+        let result = meter(&net, &[stale; 4], &[stale; 2], &[stale; 2]);
+        assert_eq!(result.metering.answer, Answer::DONE);
+        assert_eq!(result.metering.depth, 1);
+        assert_eq!(result.depths, [0, 0, 1, stale]);
+        assert_eq!((result.ands, result.muxes), (vec![0, 0], vec![0, 1]));
+    }
+}
+
+/// The depth is that of the outputs; multiplications and levels count every
+/// gate.
+#[test]
+fn unused_deep_wire() {
+    for (output, depth) in [(0, 0), (1, 1), (2, 2), (3, 0)] {
+        let net = [
+            1, 3, 1, //
+            AND, 0, 0, 0, //
+            AND, 1, 1, 0, //
+            NOT, 0, 0, 0, //
+            output,
+        ];
+        let result = meter(&net, &[9; 4], &[9; 4], &[9; 4]);
+        assert_eq!(result.metering.answer, Answer::DONE);
+        assert_eq!(result.metering.depth, depth);
+        assert_eq!(result.metering.multiplications, 2);
+        assert_eq!(result.depths, [0, 1, 2, 0]);
+        assert_eq!(result.ands, [0, 1, 1, 9]);
+        assert_eq!(result.muxes, [0, 0, 0, 9]);
+    }
+    let no_outputs = [1, 1, 0, AND, 0, 0, 0];
+    let result = meter(&no_outputs, &[9; 2], &[9; 2], &[9; 2]);
+    assert_eq!(result.metering.depth, 0);
+    assert_eq!(result.metering.multiplications, 1);
+    assert_eq!(result.ands, [0, 1]);
+}
+
+/// Too few levels: the depths are filled, and nothing else is.
+#[test]
+fn meter_fills_depths_where_only_levels_lack() {
+    for (ands, muxes, place) in [(2, 3, 2), (3, 2, 2), (1, 2, 1), (0, 9, 0), (9, 0, 0)] {
+        let result = meter(&THRESHOLD, &[9; 10], &vec![9; ands], &vec![9; muxes]);
+        assert_eq!(
+            result.metering,
+            Metering {
+                answer: refusal(8, 3, place),
+                depth: 0,
+                multiplications: 0,
+            }
+        );
+        assert_eq!(result.depths, [0, 0, 0, 0, 1, 1, 2, 2, 9, 9]);
+        assert_eq!((result.ands, result.muxes), (vec![9; ands], vec![9; muxes]));
+    }
+    // Too few depths as well: that is judged first, and nothing is filled.
+    let result = meter(&THRESHOLD, &[9; 7], &[9; 2], &[9; 2]);
+    assert_eq!(result.metering.answer, refusal(8, 2, 7));
+    assert_eq!(result.depths, [9; 7]);
+}
+
+#[test]
+fn rule_nine_by_hand() {
+    let with = |place: usize, word: u32| {
+        let mut words = THRESHOLD.to_vec();
+        words[place] = word;
+        words
+    };
+    let most = u32::MAX;
+    for words in [
+        with(4, 2),
+        with(3, ZERO),
+        with(3, ONE),
+        with(3, XOR),
+        with(3, AND),
+        with(3, MUX),
+        with(8, 3),
+        with(9, 3),
+        with(10, 0),
+        with(23, 0),
+        with(0, 4),
+        with(0, 32_768),
+    ] {
+        assert_eq!(check(&words), Answer::DONE, "{words:?}");
+    }
+    for (words, place) in [
+        // Fewer than three words.
+        (vec![], 0),
+        (vec![most], 1),
+        (vec![1, most], 2),
+        // The counts.
+        (vec![most, most, most], 0),
+        (vec![32_768, most, most], 1),
+        (vec![32_768, 262_144, most], 2),
+        (vec![32_769, 0, 0], 0),
+        (vec![0, 262_145, 0], 1),
+        (vec![0, 0, 4_097], 2),
+        // 4G + O is 1 modulo 2^32: the count is judged, not the length.
+        (vec![0, 0x4000_0000, 1, 0], 1),
+        // The length.
+        (vec![32_768, 262_144, 4_096], 3),
+        (vec![0, 0, 1], 3),
+        (vec![0, 0, 0, 0], 4),
+        (vec![0, 1, 0, 9, 9, 9], 6),
+        (THRESHOLD[..23].to_vec(), 23),
+        ([&THRESHOLD[..], &[0]].concat(), 25),
+        (with(1, 4), 24),
+        (with(1, 6), 24),
+        (with(2, 0), 24),
+        (with(2, 2), 24),
+        // NOT 0 at words 3 to 6 gives wire 3.
+        (with(3, 6), 3),
+        (with(3, most), 3),
+        (with(4, 3), 4),
+        (with(4, most), 4),
+        (with(5, 1), 5),
+        (with(6, 1), 6),
+        // MUX 1 0 3 at words 7 to 10 gives wire 4.
+        (with(7, 256 + MUX), 7),
+        (with(7, ONE), 8),
+        (with(7, NOT), 10),
+        (with(7, AND), 10),
+        (with(8, 4), 8),
+        (with(9, 4), 9),
+        (with(10, 4), 10),
+        (with(10, 5), 10),
+        // AND 0 1 at words 11 to 14 gives wire 5.
+        (with(11, NOT), 13),
+        (with(12, 5), 12),
+        (with(13, 5), 13),
+        (with(14, most), 14),
+        // The output is below 8.
+        (with(23, 8), 23),
+        (with(23, most), 23),
+        // No wire at all.
+        (vec![0, 0, 1, 0], 3),
+        // With fewer inputs each gate gives an earlier wire.
+        (with(0, 0), 4),
+        (with(0, 1), 10),
+        (with(0, 2), 10),
+    ] {
+        assert_eq!(check(&words), refusal(9, 1, place), "{words:?}");
+    }
+}
+
+/// With every condition holding, each is given in its turn.
+#[test]
+fn evaluation_order_by_hand() {
+    let mut broken = THRESHOLD;
+    broken[23] = 8;
+    let answer = |net: &[u32], inputs: &[u8], values, outputs| {
+        evaluate(net, inputs, &vec![9; values], &vec![9; outputs]).answer
+    };
+    assert_eq!(answer(&broken, &[2, 2], 7, 0), refusal(9, 1, 23));
+    assert_eq!(answer(&THRESHOLD, &[2, 2], 7, 0), refusal(3, 2, 2));
+    assert_eq!(answer(&THRESHOLD, &[2; 4], 7, 0), refusal(3, 2, 4));
+    assert_eq!(answer(&THRESHOLD, &[1, 2, 255], 7, 0), refusal(4, 2, 1));
+    assert_eq!(answer(&THRESHOLD, &[1, 1, 255], 7, 0), refusal(4, 2, 2));
+    assert_eq!(answer(&THRESHOLD, &[1, 1, 0], 7, 0), refusal(8, 3, 7));
+    assert_eq!(answer(&THRESHOLD, &[1, 1, 0], 8, 0), refusal(8, 4, 0));
+    assert_eq!(answer(&THRESHOLD, &[1, 1, 0], 8, 1), Answer::DONE);
+}
+
+/// The first has as many inputs as the second, and its outputs are other
+/// wires: the second's inputs must be renamed, its unused operands not.
+#[test]
+fn glue_renames_the_second_inputs() {
+    let first = [2, 1, 2, XOR, 0, 1, 0, 2, 1];
+    let second = [
+        2, 3, 4, //
+        AND, 0, 1, 0, //
+        NOT, 0, 0, 0, //
+        MUX, 1, 2, 3, //
+        4, 0, 1, 2,
+    ];
+    let result = glue(&first, &second, &[9; 25]);
+    assert_eq!(result.answer, Answer::DONE);
+    assert_eq!(
+        result.out,
+        [
+            2, 4, 4, //
+            XOR, 0, 1, 0, //
+            AND, 2, 1, 0, //
+            NOT, 2, 0, 0, //
+            MUX, 1, 3, 4, //
+            5, 2, 1, 3, //
+            9, 9,
+        ]
+    );
+    // The constants keep their zeros too, even before a first that has no
+    // wire 0 among its outputs.
+    let constants = [2, 2, 2, ZERO, 0, 0, 0, ONE, 0, 0, 0, 2, 3];
+    assert_eq!(
+        glued(&first, &constants),
+        [2, 3, 2, XOR, 0, 1, 0, ZERO, 0, 0, 0, ONE, 0, 0, 0, 3, 4]
+    );
+    // The second has no inputs: its wires come after all of the first.
+    let source = [0, 1, 1, ONE, 0, 0, 0, 0];
+    let sink = [3, 0, 0];
+    assert_eq!(glued(&sink, &source), [3, 1, 1, ONE, 0, 0, 0, 3]);
+    // A threshold, inverted.
+    let inverted = glued(&THRESHOLD, &INVERTER);
+    assert_eq!(inverted[..3], [3, 6, 1]);
+    assert_eq!(inverted[3..23], THRESHOLD[3..23]);
+    assert_eq!(inverted[23..], [NOT, 7, 0, 0, 8]);
+    assert_eq!(run(&inverted, &[0, 1, 1]), [0]);
+    assert_eq!(run(&inverted, &[1, 0, 0]), [1]);
+}
+
+#[test]
+fn glue_order_by_hand() {
+    let mut broken = THRESHOLD;
+    broken[23] = 8;
+    let answer = |first: &[u32], second: &[u32], room| glue(first, second, &vec![9; room]).answer;
+    assert_eq!(answer(&broken, &broken, 0), refusal(9, 1, 23));
+    assert_eq!(answer(&THRESHOLD, &broken, 0), refusal(9, 2, 23));
+    assert_eq!(answer(&broken, &[], 0), refusal(9, 1, 23));
+    assert_eq!(answer(&[], &broken, 0), refusal(9, 1, 0));
+    assert_eq!(answer(&THRESHOLD, &[3, 0], 0), refusal(9, 2, 2));
+    // 3 + 4 * 10 + 1 words are needed, though one output is not three inputs.
+    assert_eq!(answer(&THRESHOLD, &THRESHOLD, 43), refusal(8, 3, 43));
+    assert_eq!(answer(&THRESHOLD, &THRESHOLD, 44), refusal(10, 0, 0));
+    assert_eq!(answer(&THRESHOLD, &THRESHOLD, 99), refusal(10, 0, 0));
+    assert_eq!(answer(&THRESHOLD, &INVERTER, 27), refusal(8, 3, 27));
+    assert_eq!(answer(&THRESHOLD, &INVERTER, 28), Answer::DONE);
+
+    // Too many gates: 262,144 and one more; room and the counts come first.
+    let full = cases::nots(1, MAX_GATES);
+    let needed = 3 + 4 * 262_145 + 1;
+    assert_eq!(
+        answer(&full, &INVERTER, needed - 1),
+        refusal(8, 3, needed - 1)
+    );
+    assert_eq!(answer(&full, &INVERTER, needed), refusal(11, 0, 0));
+    assert_eq!(answer(&INVERTER, &full, needed), refusal(11, 0, 0));
+    let needed = 3 + 4 * 262_149 + 1;
+    assert_eq!(
+        answer(&full, &THRESHOLD, needed - 1),
+        refusal(8, 3, needed - 1)
+    );
+    assert_eq!(answer(&full, &THRESHOLD, needed), refusal(10, 0, 0));
+    assert_eq!(answer(&THRESHOLD, &full, needed), refusal(11, 0, 0));
+    let pass = cases::pass_through(1);
+    assert_eq!(answer(&full, &pass, 3 + 4 * 262_144 + 1), Answer::DONE);
+    assert_eq!(glued(&pass, &full), full);
+    assert_eq!(glued(&full, &pass), full);
+}
+
+// ---- every small damage ----
+
+/// What a word may be replaced by.
+const WORDS: [u32; 22] = [
+    0,
+    1,
+    2,
+    3,
+    4,
+    5,
+    6,
+    7,
+    8,
+    9,
+    255,
+    256,
+    4_096,
+    4_097,
+    32_768,
+    32_769,
+    262_144,
+    262_145,
+    0x4000_0005,
+    0x8000_0000,
+    u32::MAX - 1,
+    u32::MAX,
+];
+
+/// The threshold netlist with each word replaced, and each length up to two
+/// words more.
+fn damaged_thresholds() -> Vec<Vec<u32>> {
+    let mut all = Vec::new();
+    for place in 0..THRESHOLD.len() {
+        for word in WORDS {
+            let mut words = THRESHOLD.to_vec();
+            words[place] = word;
+            all.push(words);
+        }
+    }
+    for length in 0..THRESHOLD.len() + 3 {
+        for extra in [0, 1, u32::MAX] {
+            let mut words = THRESHOLD.to_vec();
+            words.resize(length, extra);
+            all.push(words);
+        }
+    }
+    all
+}
+
+#[test]
+fn every_damaged_word() {
+    let mut random = seeded(1);
+    let mut answers = Tally::default();
+    let inputs: [&[u8]; 4] = [&[1, 0, 1], &[1, 2, 1], &[1, 0], &[1, 0, 1, 0]];
+    for net in damaged_thresholds() {
+        let broken = check(&net);
+        answers.count(&[&net], broken);
+        for inputs in inputs {
+            for values in [0, 7, 8, 9] {
+                for outputs in [0, 1, 2] {
+                    let values = fill(&mut random, values);
+                    let outputs = fill(&mut random, outputs);
+                    let result = evaluate(&net, inputs, &values, &outputs);
+                    if broken != Answer::DONE {
+                        assert_eq!(result.answer, broken);
+                    }
+                }
+            }
+        }
+        for depths in [0, 7, 8, 9] {
+            for (ands, muxes) in [(0, 0), (2, 3), (3, 2), (3, 3), (4, 5)] {
+                let depths = fill(&mut random, depths);
+                let ands = fill(&mut random, ands);
+                let muxes = fill(&mut random, muxes);
+                let result = meter(&net, &depths, &ands, &muxes);
+                if broken != Answer::DONE {
+                    assert_eq!(result.metering.answer, broken);
+                }
+            }
+        }
+        let fitting = cases::pass_through(3);
+        for room in [0, 23, 24, 27, 28, 29, 50] {
+            let out = fill(&mut random, room);
+            let result = glue(&net, &INVERTER, &out);
+            if broken != Answer::DONE {
+                assert_eq!(result.answer, broken);
+            }
+            let result = glue(&fitting, &net, &out);
+            if broken != Answer::DONE {
+                assert_eq!(result.answer, refusal(9, 2, broken.place));
+            }
+        }
+    }
+    answers.assert_seen(0, 0, 30);
+    answers.assert_all_faults(1, 5);
+}
+
+/// Two damaged words at once: the earlier one is named.
+#[test]
+fn every_pair_of_damaged_words() {
+    let mut done = 0;
+    for first in 0..THRESHOLD.len() {
+        for second in first + 1..THRESHOLD.len() {
+            for one in WORDS {
+                for other in WORDS {
+                    let mut words = THRESHOLD;
+                    words[first] = one;
+                    words[second] = other;
+                    let library = probe::check(&words);
+                    assert_eq!(library, netlist::check(&words), "check of {words:?}");
+                    done += usize::from(library == Answer::DONE);
+                }
+            }
+        }
+    }
+    assert!(done > 500, "only {done} sound ones");
+}
+
+#[test]
+fn every_list_length() {
+    let mut random = seeded(2);
+    for inputs in 0..=5 {
+        for values in 0..=10 {
+            for outputs in 0..=3 {
+                let expected = if inputs != 3 {
+                    refusal(3, 2, inputs)
+                } else if values < 8 {
+                    refusal(8, 3, values)
+                } else if outputs < 1 {
+                    refusal(8, 4, outputs)
+                } else {
+                    Answer::DONE
+                };
+                let inputs = bits(&mut random, inputs);
+                let values = fill(&mut random, values);
+                let outputs = fill(&mut random, outputs);
+                let result = evaluate(&THRESHOLD, &inputs, &values, &outputs);
+                assert_eq!(result.answer, expected);
+            }
+        }
+    }
+    for depths in 0..=10 {
+        for ands in 0..=5 {
+            for muxes in 0..=5 {
+                let expected = if depths < 8 {
+                    refusal(8, 2, depths)
+                } else if ands < 3 {
+                    refusal(8, 3, ands)
+                } else if muxes < 3 {
+                    refusal(8, 3, muxes)
+                } else {
+                    Answer::DONE
+                };
+                let depths = fill(&mut random, depths);
+                let ands = fill(&mut random, ands);
+                let muxes = fill(&mut random, muxes);
+                let result = meter(&THRESHOLD, &depths, &ands, &muxes);
+                assert_eq!(result.metering.answer, expected);
+            }
+        }
+    }
+    for (second, needed, enough) in [
+        (&INVERTER[..], 28, Answer::DONE),
+        (&THRESHOLD[..], 44, refusal(10, 0, 0)),
+    ] {
+        for room in 0..=needed + 2 {
+            let expected = if room < needed {
+                refusal(8, 3, room)
+            } else {
+                enough
+            };
+            let out = fill(&mut random, room);
+            assert_eq!(glue(&THRESHOLD, second, &out).answer, expected);
+        }
+    }
+}
+
+// ---- at random ----
+
+/// An answer's number and list.
+type Condition = (u32, u32);
+
+/// How often each answer and each fault came up.
+#[derive(Default)]
+struct Tally {
+    answers: BTreeMap<Condition, usize>,
+    faults: BTreeMap<(u32, Fault), usize>,
+    /// The answer given, with each later condition that held too.
+    preferred: BTreeMap<(Condition, Condition), usize>,
+}
+
+impl Tally {
+    fn count(&mut self, netlists: &[&[u32]], answer: Answer) {
+        *self
+            .answers
+            .entry((answer.number, answer.list))
+            .or_default() += 1;
+        if answer.number == 9 {
+            let words = netlists[answer.list as usize - 1];
+            let fault = Fault::at(words, answer.place);
+            *self.faults.entry((answer.list, fault)).or_default() += 1;
+        }
+    }
+
+    /// Takes the conditions that held, in the order in which they are judged:
+    /// the first is the answer's.
+    fn judge(&mut self, held: &[Condition], answer: Answer) {
+        let expected = held.first().copied().unwrap_or((0, 0));
+        assert_eq!((answer.number, answer.list), expected);
+        for later in held.iter().skip(1) {
+            *self.preferred.entry((expected, *later)).or_default() += 1;
+        }
+    }
+
+    fn assert_seen(&self, number: u32, list: u32, least: usize) {
+        let seen = self.answers.get(&(number, list)).copied().unwrap_or(0);
+        assert!(
+            seen >= least,
+            "answer {number} on list {list} came up {seen} times, not {least}"
+        );
+    }
+
+    fn assert_all_faults(&self, list: u32, least: usize) {
+        for fault in FAULTS {
+            let seen = self.faults.get(&(list, fault)).copied().unwrap_or(0);
+            assert!(
+                seen >= least,
+                "{fault:?} in list {list} came up {seen} times, not {least}"
+            );
+        }
+    }
+
+    /// Each of these conditions was given where each of the later ones held.
+    fn assert_order(&self, conditions: &[Condition], least: usize) {
+        for (at, earlier) in conditions.iter().enumerate() {
+            for later in &conditions[at + 1..] {
+                let pair = (*earlier, *later);
+                let seen = self.preferred.get(&pair).copied().unwrap_or(0);
+                assert!(
+                    seen >= least,
+                    "{pair:?} held together {seen} times, not {least}"
+                );
+            }
+        }
+    }
+}
+
+/// A netlist, perhaps damaged, with what it needed while it was sound.
+struct Subject {
+    words: Vec<u32>,
+    inputs: usize,
+    gates: usize,
+    outputs: usize,
+    broken: bool,
+}
+
+impl Subject {
+    fn wires(&self) -> usize {
+        self.inputs + self.gates
+    }
+}
+
+fn subject(random: &mut Random, shape: &Shape, damage: usize) -> Subject {
+    let mut words = cases::sound(random, shape);
+    let mut counts = [words[0], words[1], words[2]];
+    if random.chance(damage) {
+        if random.chance(75) {
+            let count = random.pick(&[1, 1, 1, 2, 3, 5]);
+            let place = cases::inflict_several(random, &mut words, count);
+            let expected = place.map_or(Answer::DONE, |place| refusal(9, 1, place));
+            assert_eq!(probe::check(&words), expected, "check of {}", show(&words));
+            assert_eq!(netlist::check(&words), expected);
+        } else {
+            for _ in 0..random.between(1, 4) {
+                cases::wreck(random, &mut words);
+            }
+        }
+    }
+    let broken = netlist::check(&words) != Answer::DONE;
+    if !broken {
+        // Wrecking may have made another sound netlist.
+        counts = [words[0], words[1], words[2]];
+    }
+    let [inputs, gates, outputs] = counts.map(|count| count as usize);
+    Subject {
+        words,
+        inputs,
+        gates,
+        outputs,
+        broken,
+    }
+}
+
+/// A length near the needed one: exact, one short, one long, or any.
+fn near(random: &mut Random, needed: usize) -> usize {
+    match random.below(20) {
+        0..=8 => needed,
+        9 | 10 => needed + 1,
+        11 => needed + random.between(2, 40),
+        12..=16 => needed.saturating_sub(1),
+        17 => 0,
+        _ => random.between(0, needed),
+    }
+}
+
+#[test]
+fn random_checks() {
+    let mut random = seeded(3);
+    let mut tally = Tally::default();
+    let mut far = 0;
+    for _ in 0..CASES {
+        let words = if random.chance(10) {
+            cases::soup(&mut random)
+        } else {
+            let shape = cases::small_shape(&mut random);
+            subject(&mut random, &shape, 75).words
+        };
+        let answer = check(&words);
+        tally.count(&[&words], answer);
+        far += usize::from(answer.place > 500);
+    }
+    tally.assert_seen(0, 0, CASES / 10);
+    tally.assert_seen(9, 1, CASES / 2);
+    tally.assert_all_faults(1, CASES / 400);
+    assert!(far > CASES / 100, "only {far} faults far from the front");
+}
+
+#[test]
+fn random_evaluations() {
+    let mut random = seeded(4);
+    let mut tally = Tally::default();
+    for _ in 0..CASES {
+        let shape = cases::small_shape(&mut random);
+        let net = subject(&mut random, &shape, 35);
+        let mut length = net.inputs;
+        if random.chance(20) {
+            length = near(&mut random, net.inputs);
+        }
+        let mut inputs = bits(&mut random, length);
+        let mut not_bits = false;
+        if random.chance(20) {
+            for _ in 0..random.between(1, 3) {
+                if length > 0 {
+                    let above = random.pick(&[2, 2, 3, 128, 254, 255]);
+                    let place = random.below(length);
+                    inputs[place] = above;
+                    not_bits = true;
+                }
+            }
+        }
+        let values = near(&mut random, net.wires());
+        let outputs = near(&mut random, net.outputs);
+        let mut held = Vec::new();
+        for (condition, holds) in [
+            ((9, 1), net.broken),
+            ((3, 2), length != net.inputs),
+            ((4, 2), not_bits),
+            ((8, 3), values < net.wires()),
+            ((8, 4), outputs < net.outputs),
+        ] {
+            if holds {
+                held.push(condition);
+            }
+        }
+        let values = fill(&mut random, values);
+        let outputs = fill(&mut random, outputs);
+        let result = evaluate(&net.words, &inputs, &values, &outputs);
+        if result.answer.number == 4 {
+            let place = inputs.iter().position(|&byte| byte > 1);
+            assert_eq!(Some(result.answer.place), place);
+        }
+        tally.count(&[&net.words], result.answer);
+        tally.judge(&held, result.answer);
+    }
+    let order = [(9, 1), (3, 2), (4, 2), (8, 3), (8, 4)];
+    for (number, list) in order {
+        tally.assert_seen(number, list, CASES / 100);
+    }
+    tally.assert_seen(0, 0, CASES / 20);
+    tally.assert_all_faults(1, CASES / 1_000);
+    tally.assert_order(&order, CASES / 1_000);
+}
+
+#[test]
+fn random_meterings() {
+    let mut random = seeded(5);
+    let mut tally = Tally::default();
+    let mut levels_seen = BTreeMap::new();
+    for _ in 0..CASES {
+        let shape = cases::small_shape(&mut random);
+        let net = subject(&mut random, &shape, 30);
+        let levels = if net.broken {
+            random.between(0, 9)
+        } else {
+            levels_needed(&net.words)
+        };
+        let depths = near(&mut random, net.wires());
+        let ands = near(&mut random, levels);
+        let muxes = near(&mut random, levels);
+        let mut held = Vec::new();
+        for (condition, holds) in [
+            ((9, 1), net.broken),
+            ((8, 2), depths < net.wires()),
+            ((8, 3), ands.min(muxes) < levels),
+        ] {
+            if holds {
+                held.push(condition);
+            }
+        }
+        let depths = fill(&mut random, depths);
+        let (ands, muxes) = (fill(&mut random, ands), fill(&mut random, muxes));
+        let result = meter(&net.words, &depths, &ands, &muxes);
+        let answer = result.metering.answer;
+        if answer.list == 3 {
+            let short = [ands.len(), muxes.len()].into_iter().find(|&n| n < levels);
+            assert_eq!(Some(answer.place), short);
+        }
+        if answer == Answer::DONE {
+            let counted = result.ands[..levels].iter().chain(&result.muxes[..levels]);
+            assert_eq!(counted.sum::<u32>(), result.metering.multiplications);
+            *levels_seen.entry(levels.min(20)).or_insert(0) += 1;
+        }
+        tally.count(&[&net.words], answer);
+        tally.judge(&held, answer);
+    }
+    let order = [(9, 1), (8, 2), (8, 3)];
+    for (number, list) in order {
+        tally.assert_seen(number, list, CASES / 100);
+    }
+    tally.assert_seen(0, 0, CASES / 20);
+    tally.assert_all_faults(1, CASES / 1_000);
+    tally.assert_order(&order, CASES / 1_000);
+    for levels in 1..=20 {
+        let seen = levels_seen.get(&levels).copied().unwrap_or(0);
+        assert!(seen >= 10, "{levels} levels came up {seen} times");
+    }
+}
+
+/// Levels of a sound netlist, from a list of depths made here.
+fn levels_needed(words: &[u32]) -> usize {
+    let inputs = words[0] as usize;
+    let mut depths = vec![0; inputs];
+    for gate in words[HEADER..].chunks_exact(4).take(words[1] as usize) {
+        let at = |operand: usize| depths[gate[operand] as usize];
+        let depth = match gate[0] {
+            ZERO | ONE => 0,
+            NOT => at(1),
+            XOR => at(1).max(at(2)),
+            AND => 1 + at(1).max(at(2)),
+            _ => 1 + at(1).max(at(2)).max(at(3)),
+        };
+        depths.push(depth);
+    }
+    1 + depths[inputs..].iter().max().copied().unwrap_or(0)
+}
+
+#[test]
+fn random_gluings() {
+    let mut random = seeded(6);
+    let mut tally = Tally::default();
+    for _ in 0..CASES {
+        let shape = cases::small_shape(&mut random);
+        let first = subject(&mut random, &shape, 20);
+        let mut shape = cases::small_shape(&mut random);
+        shape.inputs = match random.below(10) {
+            0 => first.outputs + 1,
+            1 => first.outputs.saturating_sub(1),
+            2 => shape.inputs,
+            _ => first.outputs,
+        };
+        let second = subject(&mut random, &shape, 25);
+        let needed = HEADER + 4 * (first.gates + second.gates) + second.outputs;
+        let room = near(&mut random, needed);
+        let mut held = Vec::new();
+        for (condition, holds) in [
+            ((9, 1), first.broken),
+            ((9, 2), second.broken),
+            ((8, 3), room < needed),
+            ((10, 0), first.outputs != second.inputs),
+        ] {
+            if holds {
+                held.push(condition);
+            }
+        }
+        let out = fill(&mut random, room);
+        let result = glue(&first.words, &second.words, &out);
+        tally.count(&[&first.words, &second.words], result.answer);
+        tally.judge(&held, result.answer);
+        if result.answer == Answer::DONE {
+            assert_eq!(netlist::check(&result.out[..needed]), Answer::DONE);
+        }
+    }
+    let order = [(9, 1), (9, 2), (8, 3), (10, 0)];
+    for (number, list) in order {
+        tally.assert_seen(number, list, CASES / 100);
+    }
+    tally.assert_seen(0, 0, CASES / 20);
+    tally.assert_all_faults(1, CASES / 2_000);
+    tally.assert_all_faults(2, CASES / 2_000);
+    tally.assert_order(&order, CASES / 1_000);
+}
+
+/// Every kind of fault alone, with its place known from how it was made.
+#[test]
+fn single_faults_at_known_places() {
+    let mut random = seeded(7);
+    for fault in FAULTS {
+        let mut made = 0;
+        for _ in 0..4_000 {
+            let shape = cases::small_shape(&mut random);
+            let mut words = cases::sound(&mut random, &shape);
+            assert_eq!(probe::check(&words), Answer::DONE);
+            let Some(place) = cases::inflict(&mut random, &mut words, fault) else {
+                continue;
+            };
+            assert_eq!(check(&words), refusal(9, 1, place), "{fault:?}");
+            assert_eq!(Fault::at(&words, place), fault);
+            made += 1;
+        }
+        assert!(made > 1_500, "{fault:?} was made only {made} times");
+    }
+}
+
+// ---- what gluing is for ----
+
+fn fitting(random: &mut Random, inputs: usize) -> Vec<u32> {
+    let mut shape = cases::small_shape(random);
+    shape.inputs = inputs;
+    shape.gates = shape.gates.min(300).max(usize::from(inputs == 0));
+    cases::sound(random, &shape)
+}
+
+#[test]
+fn glued_netlists_answer_as_one_after_the_other() {
+    let mut random = seeded(8);
+    let mut inputs_alike = 0;
+    for _ in 0..4_000 {
+        let inputs = random.between(0, 12);
+        let a = fitting(&mut random, inputs);
+        let b = fitting(&mut random, a[2] as usize);
+        let both = glued(&a, &b);
+        inputs_alike += usize::from(a[0] == b[0] && a[0] > 0);
+
+        let input = bits(&mut random, inputs);
+        assert_eq!(run(&both, &input), run(&b, &run(&a, &input)));
+
+        let (of_a, of_b, of_both) = (metered(&a), metered(&b), metered(&both));
+        assert!(of_both.depth <= of_a.depth + of_b.depth);
+        assert_eq!(
+            of_both.multiplications,
+            of_a.multiplications + of_b.multiplications
+        );
+    }
+    assert!(inputs_alike > 100, "only {inputs_alike}");
+}
+
+#[test]
+fn gluing_three_in_either_grouping() {
+    let mut random = seeded(9);
+    for _ in 0..4_000 {
+        let inputs = random.between(0, 12);
+        let a = fitting(&mut random, inputs);
+        let b = fitting(&mut random, a[2] as usize);
+        let c = fitting(&mut random, b[2] as usize);
+        assert_eq!(glued(&glued(&a, &b), &c), glued(&a, &glued(&b, &c)));
+        assert_eq!(glued(&cases::pass_through(inputs), &a), a);
+        assert_eq!(glued(&a, &cases::pass_through(a[2] as usize)), a);
+    }
+}
+
+// ---- at the limits ----
+
+fn largest(random: &mut Random, weights: [u32; 6]) -> Vec<u32> {
+    cases::sound(
+        random,
+        &Shape {
+            inputs: MAX_INPUTS,
+            gates: MAX_GATES,
+            outputs: MAX_OUTPUTS,
+            weights,
+            reach: cases::ANYWHERE,
+        },
+    )
+}
+
+#[test]
+fn largest_netlists() {
+    let mut random = seeded(10);
+    let wires = MAX_INPUTS + MAX_GATES;
+    let stale_bytes = fill(&mut random, wires + 1);
+    let stale_words: Vec<u32> = fill(&mut random, wires + 1);
+    for weights in [cases::MIXED, cases::ARITHMETIC, cases::MULTIPLYING] {
+        let net = largest(&mut random, weights);
+        assert_eq!(net.len(), 3 + 4 * 262_144 + 4_096);
+        assert_eq!(check(&net), Answer::DONE);
+
+        let inputs = bits(&mut random, MAX_INPUTS);
+        for (values, outputs, expected) in [
+            (wires, MAX_OUTPUTS, Answer::DONE),
+            (wires + 1, MAX_OUTPUTS + 1, Answer::DONE),
+            (wires - 1, MAX_OUTPUTS - 1, refusal(8, 3, wires - 1)),
+            (wires, MAX_OUTPUTS - 1, refusal(8, 4, MAX_OUTPUTS - 1)),
+        ] {
+            let result = evaluate(
+                &net,
+                &inputs,
+                &stale_bytes[..values],
+                &stale_bytes[..outputs],
+            );
+            assert_eq!(result.answer, expected);
+        }
+        let mut inputs_off = inputs.clone();
+        inputs_off[MAX_INPUTS - 1] = 2;
+        let result = evaluate(&net, &inputs_off, &stale_bytes, &stale_bytes);
+        assert_eq!(result.answer, refusal(4, 2, MAX_INPUTS - 1));
+        let result = evaluate(&net, &inputs[1..], &stale_bytes, &stale_bytes);
+        assert_eq!(result.answer, refusal(3, 2, MAX_INPUTS - 1));
+
+        let levels = levels_needed(&net);
+        for (depths, ands, muxes, expected) in [
+            (wires, levels, levels, Answer::DONE),
+            (wires + 1, levels + 1, levels + 1, Answer::DONE),
+            (wires - 1, levels, levels, refusal(8, 2, wires - 1)),
+            (wires, levels - 1, levels - 1, refusal(8, 3, levels - 1)),
+            (wires, levels, levels - 1, refusal(8, 3, levels - 1)),
+        ] {
+            let result = meter(
+                &net,
+                &stale_words[..depths],
+                &stale_words[..ands],
+                &stale_words[..muxes],
+            );
+            assert_eq!(result.metering.answer, expected);
+        }
+    }
+}
+
+/// The deepest netlist there is.
+#[test]
+fn deepest_netlist() {
+    let mut random = seeded(11);
+    let net = cases::chain(1, MAX_GATES);
+    let levels = MAX_GATES + 1;
+    let stale: Vec<u32> = fill(&mut random, MAX_GATES + 2);
+    let result = meter(&net, &stale, &stale[..levels], &stale);
+    assert_eq!(
+        result.metering,
+        Metering {
+            answer: Answer::DONE,
+            depth: 262_144,
+            multiplications: 262_144,
+        }
+    );
+    assert_eq!(result.ands[..3], [0, 0, 1]);
+    assert_eq!(result.muxes[..3], [0, 1, 0]);
+    for (ands, muxes) in [(levels - 1, levels), (levels, levels - 1)] {
+        let result = meter(&net, &stale, &stale[..ands], &stale[..muxes]);
+        assert_eq!(result.metering.answer, refusal(8, 3, levels - 1));
+        assert_eq!(result.depths[MAX_GATES], 262_144);
+    }
+    for bit in [0, 1] {
+        assert_eq!(run(&net, &[bit]), [bit]);
+    }
+}
+
+/// Each kind of fault in the largest netlist, at its first and last places
+/// and between.
+#[test]
+fn faults_in_the_largest_netlist() {
+    let mut random = seeded(12);
+    let net = largest(&mut random, cases::MIXED);
+    for fault in FAULTS {
+        for _ in 0..3 {
+            let mut words = net.clone();
+            let place = cases::inflict(&mut random, &mut words, fault);
+            let place = place.expect("the largest netlist has words of every use");
+            assert_eq!(check(&words), refusal(9, 1, place), "{fault:?}");
+        }
+    }
+    let mut words = net.clone();
+    let last_gate = HEADER + 4 * (MAX_GATES - 1);
+    for (place, word) in [
+        (net.len() - 1, (MAX_INPUTS + MAX_GATES) as u32),
+        (last_gate + 4, u32::MAX),
+        (last_gate, 6),
+        (HEADER, u32::MAX),
+        (2, MAX_OUTPUTS as u32 + 1),
+        (1, MAX_GATES as u32 + 1),
+        (0, MAX_INPUTS as u32 + 1),
+    ] {
+        // Each goes in before the ones already there.
+        words[place] = word;
+        assert_eq!(check(&words), refusal(9, 1, place));
+        let result = evaluate(&words, &[], &[], &[]);
+        assert_eq!(result.answer, refusal(9, 1, place));
+        let result = meter(&words, &[], &[], &[]);
+        assert_eq!(result.metering.answer, refusal(9, 1, place));
+        assert_eq!(glue(&words, &words, &[]).answer, refusal(9, 1, place));
+        assert_eq!(glue(&net, &words, &[]).answer, refusal(9, 2, place));
+    }
+}
+
+/// Gate numbers that add up to the limit, to one more, and to twice it.
+#[test]
+fn gluing_at_the_limit_of_gates() {
+    let mut random = seeded(13);
+    let mut tally = Tally::default();
+    let most = HEADER + 4 * 2 * MAX_GATES + MAX_OUTPUTS;
+    let stale: Vec<u32> = fill(&mut random, most + 1);
+    let half = MAX_GATES / 2;
+    for (first_gates, second_gates) in [
+        (0, MAX_GATES),
+        (MAX_GATES, 0),
+        (1, MAX_GATES),
+        (MAX_GATES, 1),
+        (half, half),
+        (half, half + 1),
+        (half + 1, half),
+        (half - 1, half),
+        (MAX_GATES - 1, 1),
+        (2, MAX_GATES - 1),
+        (MAX_GATES, MAX_GATES),
+    ] {
+        for alike in [true, false] {
+            let first = Shape {
+                inputs: MAX_OUTPUTS,
+                gates: first_gates,
+                outputs: MAX_OUTPUTS,
+                weights: cases::MIXED,
+                reach: cases::ANYWHERE,
+            };
+            let second = Shape {
+                inputs: MAX_OUTPUTS - usize::from(!alike),
+                gates: second_gates,
+                outputs: random.between(0, MAX_OUTPUTS),
+                ..first
+            };
+            let first = cases::sound(&mut random, &first);
+            let second = cases::sound(&mut random, &second);
+            let needed = glued_length(&first, &second);
+            for room in [needed - 1, needed, needed + 1] {
+                let mut held = Vec::new();
+                for (condition, holds) in [
+                    ((8, 3), room < needed),
+                    ((10, 0), !alike),
+                    ((11, 0), first_gates + second_gates > MAX_GATES),
+                ] {
+                    if holds {
+                        held.push(condition);
+                    }
+                }
+                let result = glue(&first, &second, &stale[..room]);
+                tally.count(&[&first, &second], result.answer);
+                tally.judge(&held, result.answer);
+                if result.answer == Answer::DONE {
+                    assert_eq!(probe::check(&result.out[..needed]), Answer::DONE);
+                }
+            }
+        }
+    }
+    let order = [(8, 3), (10, 0), (11, 0)];
+    for (number, list) in order {
+        tally.assert_seen(number, list, 12);
+    }
+    tally.assert_seen(0, 0, 10);
+    tally.assert_order(&order, 6);
+}
+
+/// The library's calls at the limits, all buffers outside, on a small stack.
+#[test]
+fn small_stack() {
+    const STACK: usize = 512 * 1024;
+    let mut random = seeded(14);
+    let wires = MAX_INPUTS + MAX_GATES;
+    let net = largest(&mut random, cases::MIXED);
+    let chain = cases::chain(MAX_INPUTS, MAX_GATES);
+    let inputs = bits(&mut random, MAX_INPUTS);
+    let first = cases::nots(MAX_INPUTS, MAX_GATES / 2);
+    let second = cases::nots(1, MAX_GATES / 2);
+    let mut values = vec![9; wires];
+    let mut outputs = vec![9; MAX_OUTPUTS];
+    let mut depths = vec![9; wires];
+    let mut ands = vec![9; MAX_GATES + 1];
+    let mut muxes = vec![9; MAX_GATES + 1];
+    let mut out = vec![9; glued_length(&first, &second)];
+    std::thread::scope(|scope| {
+        let call = || {
+            assert_eq!(probe::check(&net), Answer::DONE);
+            assert_eq!(probe::check(&chain), Answer::DONE);
+            let answer = probe::evaluate(&net, &inputs, &mut values, &mut outputs);
+            assert_eq!(answer, Answer::DONE);
+            let metering = probe::meter(&chain, &mut depths, &mut ands, &mut muxes);
+            assert_eq!(metering.answer, Answer::DONE);
+            assert_eq!(metering.depth, 262_144);
+            let answer = probe::glue(&first, &second, &mut out);
+            assert_eq!(answer, Answer::DONE);
+        };
+        let thread = std::thread::Builder::new().stack_size(STACK);
+        let thread = thread.spawn_scoped(scope, call).expect("a thread");
+        thread.join().expect("the calls end well");
+    });
+    let mut rust_values = vec![9; wires];
+    let mut rust_outputs = vec![9; MAX_OUTPUTS];
+    netlist::evaluate(&net, &inputs, &mut rust_values, &mut rust_outputs);
+    assert!(values == rust_values && outputs == rust_outputs);
+    assert_eq!(depths[wires - 1], 262_144);
+    // All NOT gates in a row, through both netlists.
+    let whole = cases::nots(MAX_INPUTS, MAX_GATES);
+    assert!(out == whole);
+}
