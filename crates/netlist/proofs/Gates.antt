@@ -1,14 +1,14 @@
 -- Laws of one gate and its words.
-use Prim.Native.Nat.{ℕ, zero, suc, _≤_, _<_}
+use Prim.Native.Nat.{ℕ, zero, suc, _*_, _/_, _%_, _^_, _≤_}
 use mathlib.Core.Path.{_≡_, refl, ap}
 use mathlib.Core.List.{List, [], _∷_}
 use native.Mathlib.Omega.{arith}
-use lib.ListN.{length, getD}
+use lib.ListN.{length}
 use Rattle.netlist.specs.declared.gate.Gate.{Gate}
 use Rattle.netlist.specs.declared.gate.Gate.the-variants.{Zero, One, Not, Xor, And, Mux}
 use Rattle.netlist.specs.declared.gate.Taken.{Taken}
 use Rattle.netlist.specs.declared.gate.Taken.the-variants.{Valid, Unknown}
-use Rattle.netlist.specs.Gates.{takenOf, gateWords, gateOf}
+use Rattle.netlist.specs.Gates.{takenOf, codeOf, usesOf, gateWords, gateOf}
 
 pub taken-unknown : (k a b c : ℕ) → 6 ≤ k → takenOf k a b c ≡ Unknown
 unfolding takenOf
@@ -19,6 +19,23 @@ taken-unknown (suc (suc (suc zero))) a b c h = absurd (omega arith)
 taken-unknown (suc (suc (suc (suc zero)))) a b c h = absurd (omega arith)
 taken-unknown (suc (suc (suc (suc (suc zero))))) a b c h = absurd (omega arith)
 taken-unknown (suc (suc (suc (suc (suc (suc k)))))) a b c h = refl
+
+-- the numbers of operands, packed
+pub code-small : (g : Gate) → codeOf g ≤ 5
+code-small Zero = omega arith
+code-small One = omega arith
+code-small (Not a) = omega arith
+code-small (Xor a b) = omega arith
+code-small (And a b) = omega arith
+code-small (Mux a b c) = omega arith
+
+pub digits : (g : Gate) → 3285248 / 2 ^ (4 * codeOf g) % 16 ≡ usesOf g
+digits Zero = refl
+digits One = refl
+digits (Not a) = refl
+digits (Xor a b) = refl
+digits (And a b) = refl
+digits (Mux a b c) = refl
 
 pub gateWords-length : (g : Gate) → length (gateWords g) ≡ 4
 gateWords-length Zero = refl

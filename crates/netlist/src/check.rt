@@ -9,23 +9,17 @@ ghost use Rattle.answer.specs.Answers.{each};
 ghost use Rattle.netlist.specs.Words.{gatePlace};
 ghost use Rattle.netlist.specs.Check.{inputLimit, gateLimit, operandAnswer, wordsAnswer, gateAnswer, outputAnswer, countsAnswer, wiresAnswer, netAnswer};
 
-// An operand of the gate on the given wire: an earlier wire if used, 0 if not.
+// An operand of the gate on the given wire: an earlier wire if used; if not, 0, which is below 1.
 fn operand(used: bool, wire: u32, x: u32, list: u32, place: usize) -> Answer
     ensures { λ r. ⌜ r ≡ operandAnswer used wire x list place ⌝ }
 {
-    let broken = Answer::Refused {
-        number: answer::NETLIST,
-        list,
-        place,
-    };
-    if used {
-        if wire <= x {
-            return broken;
-        }
-        return Answer::Done;
-    }
-    if 0 < x {
-        return broken;
+    let limit = if used { wire } else { 1 };
+    if limit <= x {
+        return Answer::Refused {
+            number: answer::NETLIST,
+            list,
+            place,
+        };
     }
     Answer::Done
 }

@@ -1,6 +1,6 @@
 // One gate: its four words taken apart by the kind, and put together again.
 ghost use mathlib.Core.Path.{_≡_};
-ghost use Rattle.netlist.specs.Gates.{takenOf, gateOf, usesOf};
+ghost use Rattle.netlist.specs.Gates.{takenOf, gateOf, codeOf, usesOf};
 
 // A gate, with the wires that it uses.
 pub enum Gate {
@@ -44,16 +44,24 @@ pub fn decoded(kind: u32, a: u32, b: u32, c: u32) -> Gate
     gate
 }
 
-// How many operands the gate uses: the first so many of a, b and c.
-pub fn uses(gate: Gate) -> u32
-    ensures { λ r. ⌜ r ≡ usesOf gate ⌝ }
+// The gate's kind number.
+pub fn code(gate: Gate) -> u32
+    ensures { λ r. ⌜ r ≡ codeOf gate ⌝ }
 {
     match gate {
         Gate::Zero => 0,
-        Gate::One => 0,
-        Gate::Not(_) => 1,
-        Gate::Xor(_, _) => 2,
-        Gate::And(_, _) => 2,
-        Gate::Mux(_, _, _) => 3,
+        Gate::One => 1,
+        Gate::Not(_) => 2,
+        Gate::Xor(_, _) => 3,
+        Gate::And(_, _) => 4,
+        Gate::Mux(_, _, _) => 5,
     }
+}
+
+// How many operands the gate uses: the first so many of a, b and c. The numbers of the six kinds are the
+// digits of 0x322100, lowest first: read so and not by a branch, since kinds come in no order.
+pub fn uses(gate: Gate) -> u32
+    ensures { λ r. ⌜ r ≡ usesOf gate ⌝ }
+{
+    (0x322100 >> (4 * code(gate))) % 16
 }

@@ -1,3 +1,6 @@
+use Prim.Native.Nat.{_≤_}
+use mathlib.Core.Logic.{⊎-elim}
+use native.Mathlib.Omega.{arith}
 use borrow.Author.Tests.{lt-ltb, le-ltb, le-leb, lt-leb}
 use Rattle.answer.specs.Answers.{refuse}
 use Rattle.netlist.specs.Check.{operandAnswer}
@@ -6,25 +9,19 @@ use Rattle.netlist.proofs.check.operand.Tie as tie
 use Rattle.netlist.proofs.check.operand.Reads as reads
 use Rattle.netlist.proofs.check.operand.Lts as lts
 
--- src/check.rt:23:13
+-- src/check.rt:18:9
 returns : tie.Need-returns
 unfolding operandAnswer refuse
-returns c = simp (c .before .if1 .taken, le-leb _ _ (c .if2 .taken))
-
--- src/check.rt:25:9
-returns-2 : tie.Need-returns-2
-unfolding operandAnswer refuse
-returns-2 c = simp (c .before .if1 .taken, lt-leb _ _ (c .if2 .left))
-
--- src/check.rt:28:9
-returns-3 : tie.Need-returns-3
-unfolding operandAnswer refuse
-returns-3 c = simp (c .before .if1 .left, lt-ltb _ _ (c .if3 .taken))
+returns c = ⊎-elim (λ w. simp (w .0 .taken, le-leb _ _ (rw (w .1) at (c .if2 .taken))))
+    (λ w. simp (w .0 .left, lt-ltb _ _ (rw (w .1) at (c .if2 .taken))))
+    (c .before .if1 .came)
 
 -- src/check.rt:13:1
-returns-4 : tie.Need-returns-4
+returns-2 : tie.Need-returns-2
 unfolding operandAnswer refuse
-returns-4 c = simp (c .before .if1 .left, le-ltb _ _ (c .if3 .left))
+returns-2 c = ⊎-elim (λ w. simp (w .0 .taken, lt-leb _ _ (rw (w .1) at (c .if2 .left))))
+    (λ w. let z : c .before .before .args .x ≤ 0 = omega (arith, w .1) in simp (w .0 .left, le-ltb _ _ z))
+    (c .before .if1 .came)
 
 pub operand-spec : {M : Type 1} → statement M
-operand-spec = tie.close (tie.spec returns returns-2 returns-3 returns-4)
+operand-spec = tie.close (tie.spec returns returns-2)
