@@ -1,5 +1,5 @@
 -- The walks, step by step, and what they make of a sound netlist.
-use Prim.Native.Nat.{ℕ, zero, suc, _+_, _*_, _<_, _≤_}
+use Prim.Native.Nat.{ℕ, _+_, _<_, _≤_}
 use mathlib.Core.Path.{_≡_, refl, sym, ap, ap₂, _∙_}
 use mathlib.Core.List.{List, [], _∷_, _++_, map}
 use native.Mathlib.Omega.{arith}
@@ -7,11 +7,10 @@ use native.Mathlib.Numerals.{add-one}
 use lib.ListN.{length, getD, set, take, drop, length-drop, length-map, take-append-drop}
 use lib.Seq.{length-take-le, take-suc, take-all, getD-drop}
 use Rattle.answer.specs.Fronts.{over}
-use Rattle.answer.proofs.Over.{over-none, length-over, over-next, over-at, take-over, over-over}
-use Rattle.netlist.specs.declared.gate.Gate.{Gate}
+use Rattle.answer.proofs.Over.{over-none, over-next, over-at, take-over, over-over}
 use Rattle.netlist.specs.Net.{Uses, at, step, run, valAlg, values, eval, Below}
 use Rattle.netlist.specs.Words.{inputsOf, gatesOf, outputsOf, gatePlace, gateAt, gatesAt, netOf}
-use Rattle.netlist.proofs.Sim.{run-append, run-length, step-front, uses-mono}
+use Rattle.netlist.proofs.Sim.{run-append, run-length, step-front}
 use Rattle.netlist.proofs.Glued.{map-append}
 use Rattle.netlist.proofs.Words.{gates-length, gates-snoc, outs-length, sound-valid}
 use Rattle.evaluate.specs.Ready.{Ready}
@@ -22,10 +21,6 @@ module _ (inputs vals : List ℕ) where
   pub inputs-none : vals ≡ inputsPut inputs 0 vals
   unfolding inputsPut
   inputs-none = sym (over-none vals)
-
-  pub inputs-length : (n : ℕ) → n ≤ length inputs → n ≤ length vals → length (inputsPut inputs n vals) ≡ length vals
-  unfolding inputsPut
-  inputs-length n h l = length-over (take n inputs) vals (omega (arith, length-take-le n inputs h))
 
   pub inputs-more : (n : ℕ) → n < length inputs → n < length vals
       → set (inputsPut inputs n vals) n (getD inputs n 0) ≡ inputsPut inputs (n + 1) vals
@@ -47,10 +42,6 @@ module _ (net : List ℕ) (I : ℕ) (vals : List ℕ) where
   pub gates-none : I ≤ length vals → vals ≡ gatesPut net I 0 vals
   unfolding gatesPut over
   gates-none h = rw (length-take-le I vals h) (sym (take-append-drop I vals))
-
-  pub gates-put-length : (n : ℕ) → I + n ≤ length vals → length (gatesPut net I n vals) ≡ length vals
-  unfolding gatesPut
-  gates-put-length n h = length-over (run valAlg (take I vals) (gatesAt net 3 n)) vals (omega (arith, front n (omega arith)))
 
   pub gates-more : (n : ℕ) → I + n < length vals → Uses (I + n) (gateAt net (gatePlace n))
       → set (gatesPut net I n vals) (I + n) (step valAlg (gatesPut net I n vals) (gateAt net (gatePlace n))) ≡ gatesPut net I (n + 1) vals
@@ -74,10 +65,6 @@ module _ (net vals : List ℕ) (start : ℕ) (outs : List ℕ) where
   pub outputs-none : outs ≡ outputsPut net vals start 0 outs
   unfolding outputsPut
   outputs-none = sym (over-none outs)
-
-  pub outputs-length : (n : ℕ) → start + n ≤ length net → n ≤ length outs → length (outputsPut net vals start n outs) ≡ length outs
-  unfolding outputsPut
-  outputs-length n h l = length-over (map (at valAlg vals) (take n (drop start net))) outs (omega (arith, wires n h))
 
   pub outputs-more : (n : ℕ) → start + n < length net → n < length outs
       → set (outputsPut net vals start n outs) n (getD vals (getD net (start + n) 0) 0) ≡ outputsPut net vals start (n + 1) outs

@@ -1,6 +1,5 @@
 -- The walks over the inputs, the gates and the outputs: what each has written after n of them, and what it asks.
 use Prim.Native.Nat.{ℕ, _+_, _<_, _≤_}
-use mathlib.Core.Path.{_≡_}
 use mathlib.Core.List.{List, map}
 use lib.ListN.{length, getD, take, drop}
 use Rattle.answer.specs.Fronts.{over}

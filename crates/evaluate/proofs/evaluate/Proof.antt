@@ -1,6 +1,6 @@
 use Prim.Native.Nat.{ℕ}
-use mathlib.Core.Path.{_≡_, refl, sym, _∙_}
 use mathlib.Core.List.{List}
+use mathlib.Core.Path.{_≡_, refl, sym, _∙_}
 use native.Mathlib.Omega.{arith}
 use denote.Ref.{now}
 use lib.ListN.{length}
@@ -15,14 +15,28 @@ use borrow.Author.Needs.{needs}
 use Rattle.evaluate.proofs.evaluate.Statement.{statement}
 use Rattle.evaluate.proofs.evaluate.Tie as tie
 
--- the judge is done
-ready : (c : tie.After-enum-told)
-    → Ready (now (c .before .before .before .before .before .before .before .args .net)) (now (c .before .before .before .before .before .before .before .args .inputs)) (length (now (c .before .before .before .before .before .before .before .args .values))) (length (now (c .before .before .before .before .before .before .before .args .outputs)))
+-- What was lent; the call is accepted; the values after the walk over the gates.
+abbrev words : tie.After-enum-told → List ℕ
+words c = now (c .before .before .before .before .before .before .before .args .net)
+
+abbrev bytes : tie.After-enum-told → List ℕ
+bytes c = now (c .before .before .before .before .before .before .before .args .inputs)
+
+abbrev vals : tie.After-enum-told → List ℕ
+vals c = now (c .before .before .before .before .before .before .before .args .values)
+
+abbrev outs : tie.After-enum-told → List ℕ
+outs c = now (c .before .before .before .before .before .before .before .args .outputs)
+
+ready : (c : tie.After-enum-told) → Ready (words c) (bytes c) (length (vals c)) (length (outs c))
 ready c = done-ready _ _ _ _ (sym (c .before .before .judge .ensures) ∙ c .enum-told .given .1)
 
+abbrev accepted : tie.After-put-gates → tie.After-enum-told
+accepted c = c .before .before .before .before .before .before .before .before .before
+
 filled : (c : tie.After-put-gates)
-    → c .put-gates .last .1 .0 ≡ over (values (netOf (now (c .before .before .before .before .before .before .before .before .before .before .before .before .before .before .before .before .args .net))) (now (c .before .before .before .before .before .before .before .before .before .before .before .before .before .before .before .before .args .inputs))) (now (c .before .before .before .before .before .before .before .before .before .before .before .before .before .before .before .before .args .values))
-filled c = all-values _ _ _ _ (ready (c .before .before .before .before .before .before .before .before .before)) _ (c .before .before .before .before .put-inputs .ensures) (c .put-gates .ensures)
+    → c .put-gates .last .1 .0 ≡ over (values (netOf (words (accepted c))) (bytes (accepted c))) (vals (accepted c))
+filled c = all-values _ _ _ _ (ready (accepted c)) _ (c .before .before .before .before .put-inputs .ensures) (c .put-gates .ensures)
 
 judge-requires : tie.Need-judge-requires
 judge-requires c κs = search needs

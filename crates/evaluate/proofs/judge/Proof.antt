@@ -21,12 +21,15 @@ use borrow.Author.Needs.{needs}
 use Rattle.evaluate.proofs.judge.Statement.{statement}
 use Rattle.evaluate.proofs.judge.Tie as tie
 
--- What holds after the check of the netlist, of the inputs' length and of their bits: the row goes on.
+-- What is known once the netlist, the inputs' number and the inputs' bits have passed: the row goes on.
 abbrev words : tie.After-enum-told → List ℕ
 words c = now (c .before .before .before .before .before .args .net)
 
-abbrev given : tie.After-enum-told → List ℕ
-given c = now (c .before .before .before .before .before .args .inputs)
+abbrev bytes : tie.After-enum-told → List ℕ
+bytes c = now (c .before .before .before .before .before .args .inputs)
+
+abbrev numbered : tie.After-enum-told → Answer
+numbered c = refuse 3 2 (length (bytes c)) (not (eqb (length (bytes c)) (inputsOf (words c))))
 
 sound : (c : tie.After-enum-told) → Sound (words c)
 sound c = done-sound 1 _ (sym (c .before .before .check-as .ensures) ∙ c .enum-told .given .1)
@@ -34,13 +37,12 @@ sound c = done-sound 1 _ (sym (c .before .before .check-as .ensures) ∙ c .enum
 checked : (c : tie.After-enum-told) {s b : Answer} → s ≡ b → s ≡ netAnswer 1 (words c) ▹ b
 checked c e = go (c .before .before .check-as .ensures) (c .enum-told .given .1) e
 
-fitting : (c : tie.Else1) {s b : Answer} → s ≡ b
-    → s ≡ netAnswer 1 (words (c .before .before)) ▹ refuse 3 2 (length (given (c .before .before))) (not (eqb (length (given (c .before .before))) (inputsOf (words (c .before .before))))) ▹ b
-fitting c e = checked (c .before .before) (pass (refuse-not _ _ _ (ap not (eq-eqb _ _ (c .if1 .left)))) e)
+counted : (c : tie.Else1) {s b : Answer} → s ≡ b → s ≡ netAnswer 1 (words (c .before .before)) ▹ numbered (c .before .before) ▹ b
+counted c e = checked (c .before .before) (pass (refuse-not _ _ _ (ap not (eq-eqb _ _ (c .if1 .left)))) e)
 
-bits : (c : tie.Else2) {s b : Answer} → s ≡ b
-    → s ≡ netAnswer 1 (words (c .before .before .before .before)) ▹ refuse 3 2 (length (given (c .before .before .before .before))) (not (eqb (length (given (c .before .before .before .before))) (inputsOf (words (c .before .before .before .before))))) ▹ bitsAnswer 2 (given (c .before .before .before .before)) ▹ b
-bits c e = fitting (c .before .before) (pass (bits-go _ _ _ (c .before .first-no-bit .ensures) (c .if2 .left)) e)
+all-bits : (c : tie.Else2) {s b : Answer} → s ≡ b
+    → s ≡ netAnswer 1 (words (c .before .before .before .before)) ▹ numbered (c .before .before .before .before) ▹ bitsAnswer 2 (bytes (c .before .before .before .before)) ▹ b
+all-bits c e = counted (c .before .before) (pass (bits-go _ _ _ (c .before .first-no-bit .ensures) (c .if2 .left)) e)
 
 check-as-requires : tie.Need-check-as-requires
 check-as-requires c κs = search needs
@@ -70,7 +72,7 @@ first-no-bit-requires c κs = search needs
 
 returns-3 : tie.Need-returns-3
 unfolding evaluateAnswer
-returns-3 c = fitting (c .before .before) (stop _ (bits-stop _ _ _ (c .before .first-no-bit .ensures) (c .if2 .taken)) refl)
+returns-3 c = counted (c .before .before) (stop _ (bits-stop _ _ _ (c .before .first-no-bit .ensures) (c .if2 .taken)) refl)
 
 shared-slice-read-if3 : tie.Need-shared-slice-read-if3
 shared-slice-read-if3 c = omega (arith, sound (c .before .before .before .before .before))
@@ -89,7 +91,7 @@ add-if3 c = omega (arith, sound (c .before .before .before .before .before .befo
 
 returns-4 : tie.Need-returns-4
 unfolding evaluateAnswer
-returns-4 c = bits (c .before .before .before) (stop _ (refuse-yes _ _ _ (lt-ltb _ _ (c .if3 .taken))) refl)
+returns-4 c = all-bits (c .before .before .before) (stop _ (refuse-yes _ _ _ (lt-ltb _ _ (c .if3 .taken))) refl)
 
 shared-slice-read-if4 : tie.Need-shared-slice-read-if4
 shared-slice-read-if4 c = omega (arith, sound (c .before .before .before .before .before .before .before .before))
@@ -101,13 +103,13 @@ returns-5 : tie.Need-returns-5
 unfolding evaluateAnswer
 returns-5 c =
     let k = c .before .before in
-    bits (k .before .before .before) (pass (refuse-not _ _ _ (le-ltb _ _ (k .if3 .left))) (refuse-yes _ _ _ (lt-ltb _ _ (c .if4 .taken))))
+    all-bits (k .before .before .before) (pass (refuse-not _ _ _ (le-ltb _ _ (k .if3 .left))) (refuse-yes _ _ _ (lt-ltb _ _ (c .if4 .taken))))
 
 returns-6 : tie.Need-returns-6
 unfolding evaluateAnswer
 returns-6 c =
     let k = c .before .before in
-    bits (k .before .before .before)
+    all-bits (k .before .before .before)
     (pass (refuse-not _ _ _ (le-ltb _ _ (k .if3 .left))) (sym (refuse-not _ _ _ (le-ltb _ _ (c .if4 .left)))))
 
 pub judge-spec : {M : Type 1} → statement M

@@ -1,3 +1,4 @@
+use native.Mathlib.Omega.{arith}
 use borrow.Author.Tests.{eq-eqb, ne-eqb}
 use borrow.Author.Needs.{needs}
 use Rattle.evaluate.proofs.value.Statement.{statement}
@@ -16,7 +17,7 @@ cast-i : tie.Need-cast-i
 cast-i c = search needs
 
 shared-slice-read-if1 : tie.Need-shared-slice-read-if1
-shared-slice-read-if1 c = (rw (c .before .before .gate .given .1) at (c .before .before .before .before .pre))
+shared-slice-read-if1 c = omega (arith, rw (c .before .before .gate .given .1) at (c .before .before .before .before .pre))
 
 enum-known-gate-2 : tie.Need-enum-known-gate-2
 enum-known-gate-2 c = search needs
@@ -28,10 +29,10 @@ cast-j : tie.Need-cast-j
 cast-j c = search needs
 
 shared-slice-read-if2 : tie.Need-shared-slice-read-if2
-shared-slice-read-if2 c = (rw (c .before .before .gate2 .given .1) at (c .before .before .before .before .pre)) .0
+shared-slice-read-if2 c = omega (arith, rw (c .before .before .gate2 .given .1) at (c .before .before .before .before .pre))
 
 shared-slice-read-if2-2 : tie.Need-shared-slice-read-if2-2
-shared-slice-read-if2-2 c = (rw (c .before .before .before .gate2 .given .1) at (c .before .before .before .before .before .pre)) .1
+shared-slice-read-if2-2 c = omega (arith, rw (c .before .before .before .gate2 .given .1) at (c .before .before .before .before .before .pre))
 
 enum-known-gate-3 : tie.Need-enum-known-gate-3
 enum-known-gate-3 c = search needs
@@ -43,10 +44,10 @@ cast-j-2 : tie.Need-cast-j-2
 cast-j-2 c = search needs
 
 shared-slice-read-if3 : tie.Need-shared-slice-read-if3
-shared-slice-read-if3 c = (rw (c .before .before .gate3 .given .1) at (c .before .before .before .before .pre)) .0
+shared-slice-read-if3 c = omega (arith, rw (c .before .before .gate3 .given .1) at (c .before .before .before .before .pre))
 
 shared-slice-read-result : tie.Need-shared-slice-read-result
-shared-slice-read-result c = (rw (c .before .before .before .before .gate3 .given .1) at (c .before .before .before .before .before .before .pre)) .1
+shared-slice-read-result c = omega (arith, rw (c .before .before .before .before .gate3 .given .1) at (c .before .before .before .before .before .before .pre))
 
 enum-known-gate-4 : tie.Need-enum-known-gate-4
 enum-known-gate-4 c = search needs
@@ -61,13 +62,13 @@ cast-k : tie.Need-cast-k
 cast-k c = search needs
 
 shared-slice-read-if4 : tie.Need-shared-slice-read-if4
-shared-slice-read-if4 c = (rw (c .before .before .gate4 .given .1) at (c .before .before .before .before .pre)) .0
+shared-slice-read-if4 c = omega (arith, rw (c .before .before .gate4 .given .1) at (c .before .before .before .before .pre))
 
 shared-slice-read-result-2 : tie.Need-shared-slice-read-result-2
-shared-slice-read-result-2 c = (rw (c .before .before .before .before .gate4 .given .1) at (c .before .before .before .before .before .before .pre)) .1
+shared-slice-read-result-2 c = omega (arith, rw (c .before .before .before .before .gate4 .given .1) at (c .before .before .before .before .before .before .pre))
 
 shared-slice-read-result-3 : tie.Need-shared-slice-read-result-3
-shared-slice-read-result-3 c = (rw (c .before .before .before .before .gate4 .given .1) at (c .before .before .before .before .before .before .pre)) .2
+shared-slice-read-result-3 c = omega (arith, rw (c .before .before .before .before .gate4 .given .1) at (c .before .before .before .before .before .before .pre))
 
 returns : tie.Need-returns
 returns c = search needs
