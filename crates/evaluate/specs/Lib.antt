@@ -1,1 +1,3 @@
 pub mod Evaluate
+pub mod Ready
+pub mod Walks

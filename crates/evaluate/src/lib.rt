@@ -3,13 +3,12 @@
 use answer::Answer;
 use netlist::gate::Gate;
 ghost use mathlib.Core.Path.{_≡_};
-ghost use Prim.Native.Nat.{_+_, _≤_};
+ghost use Prim.Native.Nat.{_≤_};
 ghost use lib.ListN.{length};
 ghost use Rattle.answer.specs.Fronts.{over};
-ghost use Rattle.netlist.specs.Net.{Uses, step, values, valAlg, eval};
-ghost use Rattle.netlist.specs.Words.{inputsOf, gatesOf, outputsOf, netOf};
-ghost use Rattle.netlist.specs.Sound.{Sound};
+ghost use Rattle.netlist.specs.Net.{Uses, step, valAlg};
 ghost use Rattle.evaluate.specs.Evaluate.{evaluateAnswer, Evaluated};
+ghost use Rattle.evaluate.specs.Walks.{gatesPut, outputsPut, GatesFit, OutputsFit};
 
 // What a gate makes of the wires before it.
 fn value(gate: Gate, values: &[u8]) -> u8
@@ -55,7 +54,10 @@ fn put_inputs(inputs: &[u8], values: &mut [u8])
 }
 
 // The gates' values, after those of the inputs, which stand.
-fn put_gates(net: &[u32], values: &mut [u8], inputs: usize, gates: usize) {
+fn put_gates(net: &[u32], values: &mut [u8], inputs: usize, gates: usize)
+    requires { ⌜ GatesFit (now net) inputs gates (length (now values)) ⌝ }
+    ensures { λ r. ⌜ now (values .exit) ≡ gatesPut (now (net .entry)) inputs gates (now (values .entry)) ⌝ }
+{
     let mut g: usize = 0;
     while g < gates {
         let at = 3 + 4 * g;
@@ -68,7 +70,10 @@ fn put_gates(net: &[u32], values: &mut [u8], inputs: usize, gates: usize) {
 }
 
 // The outputs' values, where every wire's value stands. The output wires begin at word start.
-fn put_outputs(net: &[u32], values: &[u8], outputs: &mut [u8], start: usize, count: usize) {
+fn put_outputs(net: &[u32], values: &[u8], outputs: &mut [u8], start: usize, count: usize)
+    requires { ⌜ OutputsFit (now net) start count (length (now values)) (length (now outputs)) ⌝ }
+    ensures { λ r. ⌜ now (outputs .exit) ≡ outputsPut (now (net .entry)) (now (values .entry)) start count (now (outputs .entry)) ⌝ }
+{
     let mut o: usize = 0;
     while o < count {
         let wire = net[start + o] as usize;

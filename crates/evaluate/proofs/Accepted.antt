@@ -1,0 +1,34 @@
+-- What Done tells of a call, and what gives Done.
+use Prim.Native.Nat.{ℕ}
+use mathlib.Core.Path.{_≡_, ap}
+use mathlib.Core.Bool.{not}
+use mathlib.Core.List.{List}
+use borrow.Author.Tests.{ltb-false, eqb-true, not-false, le-ltb, eq-eqb}
+use Rattle.answer.specs.declared.Answer.the-variants.{Done}
+use Rattle.answer.proofs.Rows.{first-done, then-done, refuse-done, refuse-not, both}
+use Rattle.answer.proofs.Search.{bits-done, done-bits}
+use Rattle.netlist.proofs.Accepted.{done-sound, sound-done}
+use Rattle.evaluate.specs.Evaluate.{evaluateAnswer}
+use Rattle.evaluate.specs.Ready.{Ready}
+
+pub done-ready : (net inputs : List ℕ) (v o : ℕ) → evaluateAnswer net inputs v o ≡ Done → Ready net inputs v o
+unfolding evaluateAnswer
+done-ready net inputs v o e =
+    let e1 = then-done _ _ e in
+    let e2 = then-done _ _ e1 in
+    let e3 = then-done _ _ e2 in
+    record {
+      sound = done-sound 1 net (first-done _ _ e);
+      count = eqb-true _ _ (not-false _ (refuse-done 3 2 _ _ (first-done _ _ e1)));
+      bits = bits-done 2 inputs (first-done _ _ e2);
+      values = ltb-false _ _ (refuse-done 8 3 _ _ (first-done _ _ e3));
+      outputs = ltb-false _ _ (refuse-done 8 4 _ _ (then-done _ _ e3));
+    }
+
+pub ready-done : (net inputs : List ℕ) (v o : ℕ) → Ready net inputs v o → evaluateAnswer net inputs v o ≡ Done
+unfolding evaluateAnswer
+ready-done net inputs v o r =
+    both (sound-done 1 net (r .sound))
+    (both (refuse-not _ _ _ (ap not (eq-eqb _ _ (r .count))))
+    (both (done-bits 2 inputs (r .bits))
+    (both (refuse-not _ _ _ (le-ltb _ _ (r .values))) (refuse-not _ _ _ (le-ltb _ _ (r .outputs))))))

@@ -1,0 +1,119 @@
+-- The walks, step by step, and what they make of a sound netlist.
+use Prim.Native.Nat.{ℕ, _+_, _<_, _≤_}
+use mathlib.Core.Path.{_≡_, refl, sym, ap, ap₂, _∙_}
+use mathlib.Core.List.{List, [], _∷_, _++_, map}
+use native.Mathlib.Omega.{arith}
+use native.Mathlib.Numerals.{add-one}
+use lib.ListN.{length, getD, set, take, drop, length-drop, length-map, take-append-drop}
+use lib.Seq.{length-take-le, take-suc, take-all, getD-drop}
+use Rattle.answer.specs.Fronts.{over}
+use Rattle.answer.proofs.Over.{over-none, over-next, over-at, take-over, over-over}
+use Rattle.netlist.specs.Net.{Uses, at, step, run, valAlg, values, eval, Below}
+use Rattle.netlist.specs.Words.{inputsOf, gatesOf, outputsOf, gatePlace, gateAt, gatesAt, netOf}
+use Rattle.netlist.proofs.Sim.{run-append, run-length, step-front}
+use Rattle.netlist.proofs.Glued.{map-append}
+use Rattle.netlist.proofs.Words.{gates-length, gates-snoc, outs-length, sound-valid}
+use Rattle.evaluate.specs.Ready.{Ready}
+use Rattle.evaluate.specs.Walks.{inputsPut, gatesPut, outputsPut, GatesFit, OutputsFit}
+
+-- The inputs.
+module _ (inputs vals : List ℕ) where
+  pub inputs-none : vals ≡ inputsPut inputs 0 vals
+  unfolding inputsPut
+  inputs-none = sym (over-none vals)
+
+  pub inputs-more : (n : ℕ) → n < length inputs → n < length vals
+      → set (inputsPut inputs n vals) n (getD inputs n 0) ≡ inputsPut inputs (n + 1) vals
+  unfolding inputsPut
+  inputs-more n h l =
+      over-next (take n inputs) vals n (getD inputs n 0) (length-take-le n inputs (omega arith)) l
+      ∙ ap (λ (t : List ℕ). over t vals) (sym (ap (λ (k : ℕ). take k inputs) (add-one n) ∙ take-suc inputs n 0 h))
+
+  pub inputs-all : (n : ℕ) → length inputs ≤ n → inputsPut inputs n vals ≡ over inputs vals
+  unfolding inputsPut
+  inputs-all n h = ap (λ (t : List ℕ). over t vals) (take-all n inputs h)
+
+-- The gates.
+module _ (net : List ℕ) (I : ℕ) (vals : List ℕ) where
+  front : (n : ℕ) → I ≤ length vals → length (run valAlg (take I vals) (gatesAt net 3 n)) ≡ I + n
+  front n h =
+      omega (arith, run-length valAlg (take I vals) (gatesAt net 3 n), gates-length net 3 n, length-take-le I vals h)
+
+  pub gates-none : I ≤ length vals → vals ≡ gatesPut net I 0 vals
+  unfolding gatesPut over
+  gates-none h = rw (length-take-le I vals h) (sym (take-append-drop I vals))
+
+  pub gates-more : (n : ℕ) → I + n < length vals → Uses (I + n) (gateAt net (gatePlace n))
+      → set (gatesPut net I n vals) (I + n) (step valAlg (gatesPut net I n vals) (gateAt net (gatePlace n))) ≡ gatesPut net I (n + 1) vals
+  unfolding gatesPut over
+  gates-more n h u =
+      let p = run valAlg (take I vals) (gatesAt net 3 n) in
+      let g = gateAt net (gatePlace n) in
+      let lp : length p ≡ I + n = front n (omega arith) in
+      ap (set (over p vals) (I + n)) (step-front valAlg p (drop (length p) vals) g (rw lp u))
+      ∙ over-next p vals (I + n) (step valAlg p g) lp h
+      ∙ ap (λ (t : List ℕ). over t vals)
+      (sym (ap (run valAlg (take I vals)) (gates-snoc net 3 n) ∙ run-append valAlg (take I vals) (gatesAt net 3 n) (g ∷ [])))
+
+-- The outputs.
+module _ (net vals : List ℕ) (start : ℕ) (outs : List ℕ) where
+  wires : (n : ℕ) → start + n ≤ length net → length (map (at valAlg vals) (take n (drop start net))) ≡ n
+  wires n h =
+      length-map (take n (drop start net)) (at valAlg vals)
+      ∙ length-take-le n (drop start net) (omega (arith, length-drop start net))
+
+  pub outputs-none : outs ≡ outputsPut net vals start 0 outs
+  unfolding outputsPut
+  outputs-none = sym (over-none outs)
+
+  pub outputs-more : (n : ℕ) → start + n < length net → n < length outs
+      → set (outputsPut net vals start n outs) n (getD vals (getD net (start + n) 0) 0) ≡ outputsPut net vals start (n + 1) outs
+  unfolding outputsPut
+  outputs-more n h l =
+      let f = at valAlg vals in
+      let d = drop start net in
+      let e : take (n + 1) d ≡ take n d ++ getD net (start + n) 0 ∷ [] =
+      ap (λ (k : ℕ). take k d) (add-one n)
+      ∙ take-suc d n 0 (omega (arith, length-drop start net))
+      ∙ ap (λ (w : ℕ). take n d ++ w ∷ []) (getD-drop start net n 0) in
+      over-next (map f (take n d)) outs n (f (getD net (start + n) 0)) (wires n (omega arith)) l
+      ∙ ap (λ (t : List ℕ). over t outs) (sym (ap (map f) e ∙ map-append f (take n d) (getD net (start + n) 0 ∷ [])))
+
+-- All of them, on a sound netlist.
+map-agree : (f g : ℕ → ℕ) (m : ℕ) (l : List ℕ) → Below m l → ((i : ℕ) → i < m → f i ≡ g i) → map f l ≡ map g l
+map-agree f g m [] b h = refl
+map-agree f g m (x ∷ l) b h = ap₂ _∷_ (h x (b .0)) (map-agree f g m l (b .1) h)
+
+module _ (net inputs : List ℕ) (v o : ℕ) (r : Ready net inputs v o) where
+  pub gates-fit : (n : ℕ) → n ≡ v → GatesFit net (inputsOf net) (gatesOf net) n
+  gates-fit n e =
+      record { words = omega (arith, r .sound .size); uses = r .sound .uses; room = omega (arith, r .values) }
+
+  pub outputs-fit : (n m : ℕ) → n ≡ v → m ≡ o → OutputsFit net (gatePlace (gatesOf net)) (outputsOf net) n m
+  outputs-fit n m e f =
+      record {
+        words = omega (arith, r .sound .size);
+        wires = λ k h. omega (arith, r .sound .output k h, r .values);
+        room = omega (arith, r .outputs);
+      }
+
+  -- the values x after the inputs' walk and y after the gates', and the outputs z after the last
+  pub all-values : (vals : List ℕ) {x y : List ℕ} → x ≡ over inputs vals → y ≡ gatesPut net (inputsOf net) (gatesOf net) x
+      → y ≡ over (values (netOf net) inputs) vals
+  unfolding gatesPut
+  all-values vals e f =
+      let gs = gatesAt net 3 (gatesOf net) in
+      let t : take (inputsOf net) (over inputs vals) ≡ inputs = rw (r .count) at (take-over inputs vals) in
+      rw (f, e, t) (over-over inputs (run valAlg inputs gs) vals (omega (arith, run-length valAlg inputs gs)))
+
+  pub all-outputs : (vals outs : List ℕ) {y z : List ℕ} → y ≡ over (values (netOf net) inputs) vals
+      → z ≡ outputsPut net y (gatePlace (gatesOf net)) (outputsOf net) outs → z ≡ over (eval (netOf net) inputs) outs
+  unfolding outputsPut
+  all-outputs vals outs e f =
+      let w = values (netOf net) inputs in
+      let os = netOf net .outs in
+      let all : take (outputsOf net) os ≡ os = take-all (outputsOf net) os (omega (arith, outs-length net (r .sound))) in
+      rw (f, e, all)
+      (ap (λ (t : List ℕ). over t outs)
+      (map-agree _ _ _ os (sound-valid net (r .sound) .outs)
+      (λ i h. over-at w vals i (omega (arith, run-length valAlg inputs (netOf net .gates), r .count)))))

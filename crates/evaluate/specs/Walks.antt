@@ -1,0 +1,31 @@
+-- The walks over the inputs, the gates and the outputs: what each has written after n of them, and what it asks.
+use Prim.Native.Nat.{ℕ, _+_, _<_, _≤_}
+use mathlib.Core.List.{List, map}
+use lib.ListN.{length, getD, take, drop}
+use Rattle.answer.specs.Fronts.{over}
+use Rattle.netlist.specs.Net.{Uses, at, run, valAlg}
+use Rattle.netlist.specs.Words.{headerWords, gatePlace, gateAt, gatesAt}
+
+-- the first n inputs at the front of vals
+unfoldable pub inputsPut : List ℕ → ℕ → List ℕ → List ℕ
+inputsPut inputs n vals = over (take n inputs) vals
+
+-- the values of the first n gates after those of the inputs, I of them, which stand at the front of vals
+unfoldable pub gatesPut : List ℕ → ℕ → ℕ → List ℕ → List ℕ
+gatesPut net I n vals = over (run valAlg (take I vals) (gatesAt net headerWords n)) vals
+
+-- the values of the first n outputs at the front of outs; the output wires begin at word start
+unfoldable pub outputsPut : List ℕ → List ℕ → ℕ → ℕ → List ℕ → List ℕ
+outputsPut net vals start n outs = over (map (at valAlg vals) (take n (drop start net))) outs
+
+-- Every word read is there, each gate reads earlier wires, each output is a wire, and there is room, where v and o words
+-- are lent for the values and the outputs.
+pub record GatesFit (net : List ℕ) (I G v : ℕ) : Type 0 where
+  pub words : gatePlace G ≤ length net
+  pub uses : (g : ℕ) → g < G → Uses (I + g) (gateAt net (gatePlace g))
+  pub room : I + G ≤ v
+
+pub record OutputsFit (net : List ℕ) (start count v o : ℕ) : Type 0 where
+  pub words : start + count ≤ length net
+  pub wires : (k : ℕ) → k < count → getD net (start + k) 0 < v
+  pub room : count ≤ o
