@@ -1,3 +1,4 @@
 pub mod Bits
+pub mod Readings
 pub mod Walks
 pub mod Accepted

@@ -4,17 +4,21 @@ use mathlib.Core.Path.{_≡_, refl, sym, ap, ap₂, _∙_}
 use mathlib.Core.List.{List, [], _∷_, _++_, map}
 use native.Mathlib.Omega.{arith}
 use native.Mathlib.Numerals.{add-one}
-use lib.ListN.{length, getD, set, take, drop, length-drop, length-map, take-append-drop}
-use lib.Seq.{length-take-le, take-suc, take-all, getD-drop}
+use lib.ListN.{length, getD, set, take, drop, length-drop, length-map, length-take, take-append-drop, List·getD-eq-default}
+use lib.Seq.{length-take-le, take-suc, take-all, getD-drop, getD-take}
 use Rattle.answer.specs.Fronts.{over}
-use Rattle.answer.proofs.Over.{over-none, over-next, over-at, take-over, over-over}
+use Rattle.answer.proofs.Over.{over-none, over-next, over-at, over-take, length-over, take-over, over-over}
 use Rattle.netlist.specs.Net.{Uses, at, step, run, valAlg, values, eval, Below}
 use Rattle.netlist.specs.Words.{inputsOf, gatesOf, outputsOf, gatePlace, gateAt, gatesAt, netOf}
-use Rattle.netlist.proofs.Sim.{run-append, run-length, step-front}
+use Rattle.netlist.proofs.Gates.{operands-low}
+use Rattle.netlist.proofs.Sim.{run-append, run-length, step-front, each-map, split}
+use Rattle.netlist.proofs.Bits.{Bits, run-bits}
 use Rattle.netlist.proofs.Glued.{map-append}
 use Rattle.netlist.proofs.Words.{gates-length, gates-snoc, outs-length, sound-valid}
 use Rattle.evaluate.specs.Ready.{Ready}
+use Rattle.evaluate.specs.Truth.{truthAt}
 use Rattle.evaluate.specs.Walks.{inputsPut, gatesPut, outputsPut, GatesFit, OutputsFit}
+use Rattle.evaluate.proofs.Readings.{truth-right}
 
 -- The inputs.
 module _ (inputs vals : List ℕ) where
@@ -22,12 +26,10 @@ module _ (inputs vals : List ℕ) where
   unfolding inputsPut
   inputs-none = sym (over-none vals)
 
-  pub inputs-more : (n : ℕ) → n < length inputs → n < length vals
+  pub inputs-more : (n : ℕ) → n < length inputs → length inputs ≤ length vals
       → set (inputsPut inputs n vals) n (getD inputs n 0) ≡ inputsPut inputs (n + 1) vals
   unfolding inputsPut
-  inputs-more n h l =
-      over-next (take n inputs) vals n (getD inputs n 0) (length-take-le n inputs (omega arith)) l
-      ∙ ap (λ (t : List ℕ). over t vals) (sym (ap (λ (k : ℕ). take k inputs) (add-one n) ∙ take-suc inputs n 0 h))
+  inputs-more n h l = over-take inputs vals n h l
 
   pub inputs-all : (n : ℕ) → length inputs ≤ n → inputsPut inputs n vals ≡ over inputs vals
   unfolding inputsPut
@@ -54,6 +56,26 @@ module _ (net : List ℕ) (I : ℕ) (vals : List ℕ) where
       ∙ over-next p vals (I + n) (step valAlg p g) lp h
       ∙ ap (λ (t : List ℕ). over t vals)
       (sym (ap (run valAlg (take I vals)) (gates-snoc net 3 n) ∙ run-append valAlg (take I vals) (gatesAt net 3 n) (g ∷ [])))
+
+  -- a gate's value, read off its number
+  pub value-right : (G n : ℕ) → GatesFit net I G vals → n < G
+      → let cur = gatesPut net I n vals in
+      truthAt (gateAt net (gatePlace n)) (getD cur (getD net (gatePlace n + 1) 0) 0) (getD cur (getD net (gatePlace n + 2) 0) 0) (getD cur (getD net (gatePlace n + 3) 0) 0)
+      ≡ step valAlg cur (gateAt net (gatePlace n))
+  unfolding gatesPut
+  value-right G n f h =
+      let p = run valAlg (take I vals) (gatesAt net 3 n) in
+      let lp : length p ≡ I + n = front n (omega (arith, f .room)) in
+      truth-right _ _ _ _ (over p vals)
+      (each-map (gateAt net (gatePlace n))
+      (λ a l. rw (over-at p vals a (omega arith)) (run-bits (gatesAt net 3 n) (take I vals) (input-bits (f .bits)) a))
+      (f .uses n h))
+    where
+      input-bits : ((i : ℕ) → i < I → getD vals i 0 ≤ 1) → Bits (take I vals)
+      input-bits b i =
+          split i I
+          (λ h. rw (getD-take I vals i 0 h) (b i h))
+          (λ h. omega (arith, List·getD-eq-default (take I vals) 0 {n = i} (omega (arith, length-take I vals))))
 
 -- The outputs.
 module _ (net vals : List ℕ) (start : ℕ) (outs : List ℕ) where
@@ -85,9 +107,17 @@ map-agree f g m [] b h = refl
 map-agree f g m (x ∷ l) b h = ap₂ _∷_ (h x (b .0)) (map-agree f g m l (b .1) h)
 
 module _ (net inputs : List ℕ) (v o : ℕ) (r : Ready net inputs v o) where
-  pub gates-fit : (n : ℕ) → n ≡ v → GatesFit net (inputsOf net) (gatesOf net) n
-  gates-fit n e =
-      record { words = omega (arith, r .sound .size); uses = r .sound .uses; room = omega (arith, r .values) }
+  pub gates-fit : (vals : List ℕ) {x : List ℕ} → length vals ≡ v → x ≡ over inputs vals → GatesFit net (inputsOf net) (gatesOf net) x
+  gates-fit vals e f =
+      let len : length (over inputs vals) ≡ length vals = length-over inputs vals (omega (arith, r .count, r .values)) in
+      rw f
+      record {
+        words = omega (arith, r .sound .size);
+        uses = r .sound .uses;
+        low = λ g h. operands-low _ _ _ _ _ (r .sound .uses g h) (r .sound .whole g h);
+        room = omega (arith, r .values);
+        bits = λ i h. let k : i < length inputs = omega (arith, r .count) in rw (over-at inputs vals i k) (r .bits i k);
+      }
 
   pub outputs-fit : (n m : ℕ) → n ≡ v → m ≡ o → OutputsFit net (gatePlace (gatesOf net)) (outputsOf net) n m
   outputs-fit n m e f =

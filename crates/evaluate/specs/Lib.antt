@@ -1,3 +1,4 @@
 pub mod Evaluate
 pub mod Ready
+pub mod Truth
 pub mod Walks

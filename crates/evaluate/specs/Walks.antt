@@ -18,13 +18,17 @@ gatesPut net I n vals = over (run valAlg (take I vals) (gatesAt net headerWords 
 unfoldable pub outputsPut : List ℕ → List ℕ → ℕ → ℕ → List ℕ → List ℕ
 outputsPut net vals start n outs = over (map (at valAlg vals) (take n (drop start net))) outs
 
--- Every word read is there, each gate reads earlier wires, each output is a wire, and there is room, where v and o words
--- are lent for the values and the outputs.
-pub record GatesFit (net : List ℕ) (I G v : ℕ) : Type 0 where
+-- The words of G gates are there, each over earlier wires, its three operand words no later than the gate's own; the
+-- values have room, and bits at the inputs.
+pub record GatesFit (net : List ℕ) (I G : ℕ) (vals : List ℕ) : Type 0 where
   pub words : gatePlace G ≤ length net
   pub uses : (g : ℕ) → g < G → Uses (I + g) (gateAt net (gatePlace g))
-  pub room : I + G ≤ v
+  pub low : (g : ℕ) → g < G → (getD net (gatePlace g + 1) 0 ≤ I + g) × (getD net (gatePlace g + 2) 0 ≤ I + g) × (getD net (gatePlace g + 3) 0 ≤ I + g)
+  pub room : I + G ≤ length vals
+  pub bits : (i : ℕ) → i < I → getD vals i 0 ≤ 1
 
+-- The words of the outputs are there, each a wire, and there is room, where v and o words are lent for the values and the
+-- outputs.
 pub record OutputsFit (net : List ℕ) (start count v o : ℕ) : Type 0 where
   pub words : start + count ≤ length net
   pub wires : (k : ℕ) → k < count → getD net (start + k) 0 < v

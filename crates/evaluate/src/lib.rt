@@ -6,39 +6,30 @@ ghost use mathlib.Core.Path.{_≡_};
 ghost use Prim.Native.Nat.{_≤_};
 ghost use lib.ListN.{length};
 ghost use Rattle.answer.specs.Fronts.{over};
-ghost use Rattle.netlist.specs.Net.{Uses, step, valAlg};
 ghost use Rattle.evaluate.specs.Evaluate.{evaluateAnswer, Evaluated};
+ghost use Rattle.evaluate.specs.Truth.{truthOf, truthAt};
 ghost use Rattle.evaluate.specs.Walks.{gatesPut, outputsPut, GatesFit, OutputsFit};
 
-// What a gate makes of the wires before it.
-fn value(gate: Gate, values: &[u8]) -> u8
-    requires { ⌜ Uses (length (now values)) gate ⌝ }
-    ensures { λ r. ⌜ r ≡ step valAlg (now (values .entry)) gate ⌝ }
+// A gate's values as one number: bit x + 2y + 4z of it is the value where a, b and c carry x, y and z. Read
+// so and not by a branch, since kinds come in no order.
+fn truth(gate: Gate) -> u8
+    ensures { λ r. ⌜ r ≡ truthOf gate ⌝ }
 {
     match gate {
         Gate::Zero => 0,
-        Gate::One => 1,
-        Gate::Not(a) => {
-            let i = a as usize;
-            if values[i] == 0 { 1 } else { 0 }
-        }
-        Gate::Xor(a, b) => {
-            let i = a as usize;
-            let j = b as usize;
-            if values[i] == values[j] { 0 } else { 1 }
-        }
-        Gate::And(a, b) => {
-            let i = a as usize;
-            let j = b as usize;
-            if values[i] == 0 { 0 } else { values[j] }
-        }
-        Gate::Mux(a, b, c) => {
-            let i = a as usize;
-            let j = b as usize;
-            let k = c as usize;
-            if values[i] == 0 { values[j] } else { values[k] }
-        }
+        Gate::One => 255,
+        Gate::Not(_) => 85,
+        Gate::Xor(_, _) => 102,
+        Gate::And(_, _) => 136,
+        Gate::Mux(_, _, _) => 228,
     }
+}
+
+// What a gate makes of x, y and z on its operand words; those that it does not use do not count.
+fn value(gate: Gate, x: u8, y: u8, z: u8) -> u8
+    ensures { λ r. ⌜ r ≡ truthAt gate x y z ⌝ }
+{
+    (truth(gate) >> (x % 2 + 2 * (y % 2) + 4 * (z % 2))) % 2
 }
 
 // The inputs' values, at the front.
@@ -55,14 +46,20 @@ fn put_inputs(inputs: &[u8], values: &mut [u8])
 
 // The gates' values, after those of the inputs, which stand.
 fn put_gates(net: &[u32], values: &mut [u8], inputs: usize, gates: usize)
-    requires { ⌜ GatesFit (now net) inputs gates (length (now values)) ⌝ }
+    requires { ⌜ GatesFit (now net) inputs gates (now values) ⌝ }
     ensures { λ r. ⌜ now (values .exit) ≡ gatesPut (now (net .entry)) inputs gates (now (values .entry)) ⌝ }
 {
     let mut g: usize = 0;
     while g < gates {
         let at = 3 + 4 * g;
-        let d = netlist::gate::decoded(net[at], net[at + 1], net[at + 2], net[at + 3]);
-        let v = value(d, values);
+        let a = net[at + 1];
+        let b = net[at + 2];
+        let c = net[at + 3];
+        let gate = netlist::gate::decoded(net[at], a, b, c);
+        let i = a as usize;
+        let j = b as usize;
+        let k = c as usize;
+        let v = value(gate, values[i], values[j], values[k]);
         let wire = inputs + g;
         values[wire] = v;
         g += 1;

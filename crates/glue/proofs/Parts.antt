@@ -1,16 +1,15 @@
 -- Laws of the parts of a glued netlist.
 use Prim.Native.Nat.{ℕ, _+_, _-_, _*_, _<_, _≤_}
-use mathlib.Core.Path.{_≡_, refl, sym, ap, ap₂, _∙_}
+use mathlib.Core.Path.{_≡_, refl, sym, ap, _∙_}
 use mathlib.Core.List.{List, [], _∷_, _++_, map, append-nil, append-assoc}
 use native.Mathlib.Omega.{arith}
 use borrow.Rule.Slice.PartMut.{putMid, post-is}
-use lib.ListN.{length, getD, take, drop, length-append, length-map, length-drop, length-take}
+use lib.ListN.{length, take, drop, length-map, length-drop, length-take}
 use lib.Seq.{sets, drop-length, take-all, getD-drop, take-at}
 use Rattle.answer.specs.Fronts.{over}
 use Rattle.answer.proofs.Over.{length-over, over-sets, over-tail}
-use Rattle.netlist.specs.declared.gate.Gate.{Gate}
 use Rattle.netlist.specs.Gates.{gateWords}
-use Rattle.netlist.specs.Net.{Uses, wiresOf}
+use Rattle.netlist.specs.Net.{wiresOf}
 use Rattle.netlist.specs.Words.{inputsOf, gatesOf, outputsOf, gatePlace, gatesWords, gateAt, gatesAt, netOf, words}
 use Rattle.netlist.specs.Glue.{ren, thru, wireOf, glue}
 use Rattle.netlist.specs.Sound.{Sound}

@@ -22,10 +22,10 @@ fn wire(outs: &[u32], base: u32, i: u32) -> u32
 {
     let k = i as usize;
     if k < outs.len() {
-        outs[k]
-    } else {
-        base + (k - outs.len()) as u32
+        let output = outs[k];
+        return output;
     }
+    base + (k - outs.len()) as u32
 }
 
 // A gate of the second netlist over the wires of the glued one.

@@ -1,14 +1,14 @@
 -- Laws of one gate and its words.
 use Prim.Native.Nat.{ℕ, zero, suc, _*_, _/_, _%_, _^_, _≤_}
-use mathlib.Core.Path.{_≡_, refl, ap}
-use mathlib.Core.List.{List, [], _∷_}
+use mathlib.Core.Path.{_≡_, refl}
+use mathlib.Core.List.{[], _∷_}
 use native.Mathlib.Omega.{arith}
 use lib.ListN.{length}
 use Rattle.netlist.specs.declared.gate.Gate.{Gate}
 use Rattle.netlist.specs.declared.gate.Gate.the-variants.{Zero, One, Not, Xor, And, Mux}
-use Rattle.netlist.specs.declared.gate.Taken.{Taken}
-use Rattle.netlist.specs.declared.gate.Taken.the-variants.{Valid, Unknown}
+use Rattle.netlist.specs.declared.gate.Taken.the-variants.{Unknown}
 use Rattle.netlist.specs.Gates.{takenOf, codeOf, usesOf, gateWords, gateOf}
+use Rattle.netlist.specs.Net.{Uses}
 
 pub taken-unknown : (k a b c : ℕ) → 6 ≤ k → takenOf k a b c ≡ Unknown
 unfolding takenOf
@@ -59,3 +59,15 @@ gateOf-words (Mux x y z) k a b c e =
     let q : b ≡ y = cc in
     let r : c ≡ z = cc in
     rw (h, p, q, r)
+
+-- where a gate's words are its own, each operand word is at most the wire that bounds those used
+pub operands-low : (k a b c w : ℕ) → Uses w (gateOf k a b c) → gateWords (gateOf k a b c) ≡ k ∷ a ∷ b ∷ c ∷ [] → (a ≤ w) × (b ≤ w) × (c ≤ w)
+operands-low k a b c w u e = low (gateOf k a b c) u e
+  where
+    low : (g : Gate) → Uses w g → gateWords g ≡ k ∷ a ∷ b ∷ c ∷ [] → (a ≤ w) × (b ≤ w) × (c ≤ w)
+    low Zero u e = let x : a ≡ 0 = cc in let y : b ≡ 0 = cc in let z : c ≡ 0 = cc in omega arith
+    low One u e = let x : a ≡ 0 = cc in let y : b ≡ 0 = cc in let z : c ≡ 0 = cc in omega arith
+    low (Not p) u e = let x : a ≡ p = cc in let y : b ≡ 0 = cc in let z : c ≡ 0 = cc in omega arith
+    low (Xor p q) u e = let x : a ≡ p = cc in let y : b ≡ q = cc in let z : c ≡ 0 = cc in omega arith
+    low (And p q) u e = let x : a ≡ p = cc in let y : b ≡ q = cc in let z : c ≡ 0 = cc in omega arith
+    low (Mux p q r) u e = let x : a ≡ p = cc in let y : b ≡ q = cc in let z : c ≡ r = cc in omega arith

@@ -1,5 +1,6 @@
 pub mod Gates
 pub mod Sim
+pub mod Bits
 pub mod Glued
 pub mod Words
 pub mod Accepted

@@ -78,7 +78,8 @@ put-inputs-requires : tie.Need-put-inputs-requires
 put-inputs-requires c κs = omega (arith, ready (c .before .before .before .before))
 
 put-gates-requires : tie.Need-put-gates-requires
-put-gates-requires c κs = gates-fit _ _ _ _ (ready (c .before .before .before .before .before .before .before .before)) _ (omega arith)
+put-gates-requires c κs =
+    gates-fit _ _ _ _ (ready (c .before .before .before .before .before .before .before .before)) _ refl (c .before .before .before .put-inputs .ensures)
 
 mul-put-outputs : tie.Need-mul-put-outputs
 mul-put-outputs c = omega (arith, ready (c .before .before .before .before .before .before .before .before .before .before .before .before .before) .sound)

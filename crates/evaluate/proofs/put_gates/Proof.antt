@@ -1,11 +1,10 @@
 use Prim.Native.Nat.{_+_, _≤_, _-_}
+use lib.ListN.{getD, length}
+use Rattle.netlist.specs.Words.{gatePlace}
 use mathlib.Core.Path.{_≡_}
 use native.Mathlib.Omega.{arith}
-use lib.ListN.{length}
-use Rattle.netlist.specs.Words.{gatePlace, gateAt}
-use Rattle.netlist.proofs.Sim.{uses-mono}
 use Rattle.evaluate.specs.Walks.{gatesPut}
-use Rattle.evaluate.proofs.Walks.{gates-none, gates-more}
+use Rattle.evaluate.proofs.Walks.{gates-none, gates-more, value-right}
 use borrow.Author.Needs.{needs}
 use Rattle.evaluate.proofs.put_gates.Statement.{statement}
 use Rattle.evaluate.proofs.put_gates.Tie as tie
@@ -16,6 +15,14 @@ Inv-loop net values₀ inputs gates g₀ values g = (g ≤ gates) × (values ≡
 abbrev μ-loop : tie.MeasureT-loop
 μ-loop net values₀ inputs gates g₀ values g = gates - g
 
+-- no operand word is past the gate's own wire
+low : (c : tie.After-decoded Inv-loop μ-loop) →
+    let l = c .before .before .before .before .before .before .loop in
+    let a = c .before .before .before .before .before .before .before .before .before .args in
+    let w = a .inputs + l .g in
+    (getD (a .net .now) (gatePlace (l .g) + 1) 0 ≤ w) × (getD (a .net .now) (gatePlace (l .g) + 2) 0 ≤ w) × (getD (a .net .now) (gatePlace (l .g) + 3) 0 ≤ w)
+low c = c .before .before .before .before .before .before .before .before .before .pre .low _ (c .before .before .before .before .before .loop-test .taken)
+
 loop-holds : tie.Need-loop-holds Inv-loop μ-loop
 loop-holds c = (search needs, gates-none _ _ _ (omega arith), search needs)
 
@@ -25,48 +32,62 @@ mul-at c = search needs
 add-at : tie.Need-add-at Inv-loop μ-loop
 add-at c = search needs
 
+add-a : tie.Need-add-a Inv-loop μ-loop
+add-a c = search needs
+
+mul-a : tie.Need-mul-a Inv-loop μ-loop
+mul-a c = search needs
+
+shared-slice-read-a : tie.Need-shared-slice-read-a Inv-loop μ-loop
+shared-slice-read-a c = search needs
+
+add-b : tie.Need-add-b Inv-loop μ-loop
+add-b c = search needs
+
+mul-b : tie.Need-mul-b Inv-loop μ-loop
+mul-b c = search needs
+
+shared-slice-read-b : tie.Need-shared-slice-read-b Inv-loop μ-loop
+shared-slice-read-b c = search needs
+
+add-c : tie.Need-add-c Inv-loop μ-loop
+add-c c = search needs
+
+mul-c : tie.Need-mul-c Inv-loop μ-loop
+mul-c c = search needs
+
+shared-slice-read-c : tie.Need-shared-slice-read-c Inv-loop μ-loop
+shared-slice-read-c c = search needs
+
 mul-decoded : tie.Need-mul-decoded Inv-loop μ-loop
 mul-decoded c = search needs
 
 shared-slice-read-decoded : tie.Need-shared-slice-read-decoded Inv-loop μ-loop
 shared-slice-read-decoded c = search needs
 
-add-decoded : tie.Need-add-decoded Inv-loop μ-loop
-add-decoded c = search needs
-
-mul-decoded-2 : tie.Need-mul-decoded-2 Inv-loop μ-loop
-mul-decoded-2 c = search needs
-
-shared-slice-read-decoded-2 : tie.Need-shared-slice-read-decoded-2 Inv-loop μ-loop
-shared-slice-read-decoded-2 c = search needs
-
-add-decoded-2 : tie.Need-add-decoded-2 Inv-loop μ-loop
-add-decoded-2 c = search needs
-
-mul-decoded-3 : tie.Need-mul-decoded-3 Inv-loop μ-loop
-mul-decoded-3 c = search needs
-
-shared-slice-read-decoded-3 : tie.Need-shared-slice-read-decoded-3 Inv-loop μ-loop
-shared-slice-read-decoded-3 c = search needs
-
-add-decoded-3 : tie.Need-add-decoded-3 Inv-loop μ-loop
-add-decoded-3 c = search needs
-
-mul-decoded-4 : tie.Need-mul-decoded-4 Inv-loop μ-loop
-mul-decoded-4 c = search needs
-
-shared-slice-read-decoded-4 : tie.Need-shared-slice-read-decoded-4 Inv-loop μ-loop
-shared-slice-read-decoded-4 c = search needs
-
 decoded-requires : tie.Need-decoded-requires Inv-loop μ-loop
 decoded-requires c κs = search needs
 
+cast-i : tie.Need-cast-i Inv-loop μ-loop
+cast-i c = omega (arith, low c)
+
+cast-j : tie.Need-cast-j Inv-loop μ-loop
+cast-j c = omega (arith, low c)
+
+cast-k : tie.Need-cast-k Inv-loop μ-loop
+cast-k c = omega (arith, low c)
+
+slice-read-value : tie.Need-slice-read-value Inv-loop μ-loop
+slice-read-value c = omega (arith, low (c .before))
+
+slice-read-value-2 : tie.Need-slice-read-value-2 Inv-loop μ-loop
+slice-read-value-2 c = omega (arith, low (c .before .before))
+
+slice-read-value-3 : tie.Need-slice-read-value-3 Inv-loop μ-loop
+slice-read-value-3 c = omega (arith, low (c .before .before .before))
+
 value-requires : tie.Need-value-requires Inv-loop μ-loop
-value-requires c κs =
-    let k = c .before .before .before .before .before .before in
-    let a = k .before .before .before .before in
-    rw (c .before .decoded .ensures)
-    (uses-mono (a .args .inputs + k .before .loop .g) (length (k .before .loop .values)) (gateAt (a .args .net .now) (gatePlace (k .before .loop .g))) (omega arith) (a .pre .uses _ (k .loop-test .taken)))
+value-requires c κs = search needs
 
 add-wire : tie.Need-add-wire Inv-loop μ-loop
 add-wire c = search needs
@@ -82,12 +103,12 @@ loop-less c = search needs
 
 loop-again : tie.Need-loop-again Inv-loop μ-loop
 loop-again c =
-    let k = c .before .before .before .before .before .before .before in
-    let l = k .before .loop in
-    let a = k .before .before .before .before in (
+    let t = c .before .before .before .before .before .before .before .before .before in
+    let l = t .before .loop in
+    let s = t .before .before .before .before in (
       search needs,
-      rw (c .value .ensures, c .before .before .decoded .ensures, l .inv .1)
-          (gates-more _ _ _ _ (omega arith) (a .pre .uses _ (k .loop-test .taken))),
+      rw (c .value .ensures, c .before .before .before .before .decoded .ensures, l .inv .1, value-right _ _ _ (s .args .gates) (l .g) (s .pre) (t .loop-test .taken))
+          (gates-more _ _ _ _ (omega arith) (s .pre .uses _ (t .loop-test .taken))),
       search needs,
     )
 
@@ -108,18 +129,24 @@ put-gates-spec =
     loop-holds
     mul-at
     add-at
+    add-a
+    mul-a
+    shared-slice-read-a
+    add-b
+    mul-b
+    shared-slice-read-b
+    add-c
+    mul-c
+    shared-slice-read-c
     mul-decoded
     shared-slice-read-decoded
-    add-decoded
-    mul-decoded-2
-    shared-slice-read-decoded-2
-    add-decoded-2
-    mul-decoded-3
-    shared-slice-read-decoded-3
-    add-decoded-3
-    mul-decoded-4
-    shared-slice-read-decoded-4
     decoded-requires
+    cast-i
+    cast-j
+    cast-k
+    slice-read-value
+    slice-read-value-2
+    slice-read-value-3
     value-requires
     add-wire
     slice-write-values

@@ -8,8 +8,6 @@ use Rattle.answer.proofs.Over.{over-take}
 use borrow.Author.Needs.{needs}
 use Rattle.glue.proofs.copy.Statement.{statement}
 use Rattle.glue.proofs.copy.Tie as tie
-use Rattle.glue.proofs.copy.Reads as reads
-use Rattle.glue.proofs.copy.Lts as lts
 
 abbrev Inv-loop : tie.InvT-loop
 Inv-loop from out₀ i₀ out i = (out ≡ over (take i from) out₀) × (i ≤ length from) × (length from ≤ length out₀) × (length out ≡ length out₀)
@@ -17,47 +15,37 @@ Inv-loop from out₀ i₀ out i = (out ≡ over (take i from) out₀) × (i ≤ 
 abbrev μ-loop : tie.MeasureT-loop
 μ-loop from out₀ i₀ out i = length from - i
 
--- src/lib.rt:142:5
 loop-holds : tie.Need-loop-holds Inv-loop μ-loop
 unfolding over
 loop-holds c = (refl, search needs, search needs, search needs)
 
--- src/lib.rt:143:18
 mul-out : tie.Need-mul-out Inv-loop μ-loop
 mul-out c = search needs
 
--- src/lib.rt:143:18
 shared-slice-read-out : tie.Need-shared-slice-read-out Inv-loop μ-loop
 shared-slice-read-out c = search needs
 
--- src/lib.rt:143:9
 mul-out-2 : tie.Need-mul-out-2 Inv-loop μ-loop
 mul-out-2 c = search needs
 
--- src/lib.rt:143:9
 slice-write-out : tie.Need-slice-write-out Inv-loop μ-loop
 slice-write-out c = search needs
 
--- src/lib.rt:144:9
 add-i : tie.Need-add-i Inv-loop μ-loop
 add-i c = search needs
 
--- src/lib.rt:142:5
 loop-less : tie.Need-loop-less Inv-loop μ-loop
 loop-less c = search needs
 
--- src/lib.rt:142:5
 loop-again : tie.Need-loop-again Inv-loop μ-loop
 loop-again c =
     let l = c .before .before .loop in
     let a = c .before .before .before .args in
     (ap (λ (t : List ℕ). set t (l .i) (getD (a .from .now) (l .i) 0)) (l .inv .0) ∙ over-take (a .from .now) (a .out .now) (l .i) (search needs) (search needs), search needs, search needs, search needs)
 
--- src/lib.rt:137:1
 same-length : tie.Need-same-length Inv-loop μ-loop
 same-length c = search needs
 
--- src/lib.rt:137:1
 returns : tie.Need-returns Inv-loop μ-loop
 returns c =
     let l = c .before .loop in

@@ -4,37 +4,27 @@ use Rattle.answer.proofs.Over.{kept, made}
 use borrow.Author.Needs.{needs}
 use Rattle.glue.proofs.glue.Statement.{statement}
 use Rattle.glue.proofs.glue.Tie as tie
-use Rattle.glue.proofs.glue.Reads as reads
-use Rattle.glue.proofs.glue.Lts as lts
-use Rattle.glue.proofs.judge.Reads as judge-reads
-use Rattle.glue.proofs.write.Reads as write-reads
 
--- src/lib.rt:201:9
 judge-requires : tie.Need-judge-requires
 judge-requires c κs = search needs
 
 enum-told : tie.Need-enum-told
 enum-told c = search needs
 
--- src/lib.rt:203:9
 enum-told-2 : tie.Need-enum-told-2
 enum-told-2 c = search needs
 
--- src/lib.rt:203:9
 returns : tie.Need-returns
 returns c = record { answered = c .before .before .judge .ensures; written = kept _ _ (c .enum-told2 .given .1) }
 
--- src/lib.rt:205:5
 write-requires : tie.Need-write-requires
 write-requires c κs =
     let k = c .before in
     done-fit _ _ _ (sym (k .before .before .judge .ensures) ∙ k .enum-told .given .1)
 
--- src/lib.rt:198:1
 same-length : tie.Need-same-length
 same-length c = search needs
 
--- src/lib.rt:198:1
 returns-2 : tie.Need-returns-2
 returns-2 c =
     let w = c .before .before in

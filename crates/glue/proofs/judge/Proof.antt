@@ -3,7 +3,7 @@ use Rattle.answer.specs.declared.Answer.{Answer}
 use Rattle.answer.specs.Answers.{_▹_, refuse}
 use Rattle.netlist.specs.Words.{inputsOf, gatesOf, outputsOf}
 use Rattle.netlist.specs.Check.{gateLimit}
-use Rattle.glue.specs.Glue.{gluedSize}
+use Rattle.glue.specs.Glue.{gluedSize, glueAnswer}
 use Prim.Native.Nat.{_+_}
 use mathlib.Core.Path.{_≡_, refl, sym, ap, _∙_}
 use mathlib.Core.Bool.{not}
@@ -13,13 +13,9 @@ use denote.Ref.{now}
 use Rattle.answer.proofs.Rows.{stop, go, pass, refuse-not, refuse-yes}
 use Rattle.netlist.specs.Sound.{Sound}
 use Rattle.netlist.proofs.Accepted.{done-sound}
-use Rattle.glue.specs.Glue.{glueAnswer}
 use borrow.Author.Needs.{needs}
 use Rattle.glue.proofs.judge.Statement.{statement}
 use Rattle.glue.proofs.judge.Tie as tie
-use Rattle.glue.proofs.judge.Reads as reads
-use Rattle.glue.proofs.judge.Lts as lts
-use Rattle.netlist.proofs.check.check_as.Reads as check-as-reads
 
 -- both netlists were accepted
 firsts : (c : tie.After-enum-told3) → Sound (now (c .before .before .before .before .before .before .before .before .args .first))
@@ -40,96 +36,76 @@ after-checks c s e =
     go (c .before .before .before .before .before .check-as .ensures) (c .before .before .before .enum-told .given .1)
     (go (c .before .before .check-as2 .ensures) (c .enum-told3 .given .1) e)
 
--- src/lib.rt:164:9
 check-as-requires : tie.Need-check-as-requires
 check-as-requires c κs = search needs
 
 enum-told : tie.Need-enum-told
 enum-told c = search needs
 
--- src/lib.rt:166:9
 enum-told-2 : tie.Need-enum-told-2
 enum-told-2 c = search needs
 
--- src/lib.rt:166:9
 returns : tie.Need-returns
 unfolding glueAnswer
 returns c = stop _ (c .before .before .check-as .ensures) (c .enum-told2 .given .1)
 
--- src/lib.rt:168:9
 check-as-requires-2 : tie.Need-check-as-requires-2
 check-as-requires-2 c κs = search needs
 
 enum-told-3 : tie.Need-enum-told-3
 enum-told-3 c = search needs
 
--- src/lib.rt:170:9
 enum-told-4 : tie.Need-enum-told-4
 enum-told-4 c = search needs
 
--- src/lib.rt:170:9
 returns-2 : tie.Need-returns-2
 unfolding glueAnswer
 returns-2 c =
     let k = c .before .before in
     go (k .before .before .before .check-as .ensures) (k .before .enum-told .given .1) (stop _ (k .check-as2 .ensures) (c .enum-told4 .given .1))
 
--- src/lib.rt:172:17
 shared-slice-read-gates : tie.Need-shared-slice-read-gates
 shared-slice-read-gates c = omega (arith, firsts (c .before) .size)
 
--- src/lib.rt:172:28
 shared-slice-read-gates-2 : tie.Need-shared-slice-read-gates-2
 shared-slice-read-gates-2 c = omega (arith, seconds (c .before .before) .size)
 
--- src/lib.rt:172:17
 add-gates : tie.Need-add-gates
 add-gates c = omega (arith, firsts (c .before .before) .limits, seconds (c .before .before) .limits)
 
--- src/lib.rt:173:24
 cast-if1 : tie.Need-cast-if1
 cast-if1 c = omega (arith, firsts (c .before .before) .limits, seconds (c .before .before) .limits)
 
--- src/lib.rt:173:19
 mul-if1 : tie.Need-mul-if1
 mul-if1 c = omega (arith, firsts (c .before .before) .limits, seconds (c .before .before) .limits)
 
--- src/lib.rt:173:15
 add-if1 : tie.Need-add-if1
 add-if1 c = omega (arith, firsts (c .before .before) .limits, seconds (c .before .before) .limits)
 
--- src/lib.rt:173:42
 shared-slice-read-if1 : tie.Need-shared-slice-read-if1
 shared-slice-read-if1 c = omega (arith, seconds (c .before .before .before) .size)
 
--- src/lib.rt:173:42
 cast-if1-2 : tie.Need-cast-if1-2
 cast-if1-2 c = omega (arith, firsts (c .before .before .before) .limits, seconds (c .before .before .before) .limits)
 
--- src/lib.rt:173:15
 add-if1-2 : tie.Need-add-if1-2
 add-if1-2 c = omega (arith, firsts (c .before .before .before) .limits, seconds (c .before .before .before) .limits)
 
--- src/lib.rt:174:9
 returns-3 : tie.Need-returns-3
 returns-3 c = after-checks (c .before .before .before .before) _ (stop _ (refuse-yes _ _ _ (lt-ltb _ _ (c .if1 .taken))) refl)
 
--- src/lib.rt:180:8
 shared-slice-read-if2 : tie.Need-shared-slice-read-if2
 shared-slice-read-if2 c = omega (arith, firsts (c .before .before .before .before .before) .size)
 
--- src/lib.rt:180:20
 shared-slice-read-if2-2 : tie.Need-shared-slice-read-if2-2
 shared-slice-read-if2-2 c = omega (arith, seconds (c .before .before .before .before .before .before) .size)
 
--- src/lib.rt:181:9
 returns-4 : tie.Need-returns-4
 returns-4 c =
     let d = c .before .before .before in
     after-checks (d .before .before .before .before) _
     (pass (refuse-not _ _ _ (le-ltb _ _ (d .if1 .left))) (stop _ (refuse-yes _ _ _ (ap not (ne-eqb _ _ (c .if2 .taken)))) refl))
 
--- src/lib.rt:188:9
 returns-5 : tie.Need-returns-5
 returns-5 c =
     let d = c .before .before .before .before in
@@ -137,7 +113,6 @@ returns-5 c =
     (pass (refuse-not _ _ _ (le-ltb _ _ (d .if1 .left)))
     (pass (refuse-not _ _ _ (ap not (eq-eqb _ _ (c .before .if2 .left)))) (refuse-yes _ _ _ (lt-ltb _ _ (c .if3 .taken)))))
 
--- src/lib.rt:161:1
 returns-6 : tie.Need-returns-6
 returns-6 c =
     let d = c .before .before .before .before in

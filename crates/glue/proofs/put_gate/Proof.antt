@@ -4,63 +4,46 @@ use lib.ListN.{length-set}
 use borrow.Author.Needs.{needs}
 use Rattle.glue.proofs.put_gate.Statement.{statement}
 use Rattle.glue.proofs.put_gate.Tie as tie
-use Rattle.glue.proofs.put_gate.Reads as reads
-use Rattle.glue.proofs.put_gate.Lts as lts
-use Rattle.glue.proofs.words_of.Reads as words-of-reads
 
--- src/lib.rt:81:9
 words-of-requires : tie.Need-words-of-requires
 words-of-requires c κs = search needs
 
--- src/lib.rt:82:5
 mul-out : tie.Need-mul-out
 mul-out c = search needs
 
--- src/lib.rt:82:5
 slice-write-out : tie.Need-slice-write-out
 slice-write-out c = search needs
 
--- src/lib.rt:83:9
 add-out : tie.Need-add-out
 add-out c = search needs
 
--- src/lib.rt:83:5
 mul-out-2 : tie.Need-mul-out-2
 mul-out-2 c = search needs
 
--- src/lib.rt:83:5
 slice-write-out-2 : tie.Need-slice-write-out-2
 slice-write-out-2 c = simp length-set (omega arith)
 
--- src/lib.rt:84:9
 add-out-2 : tie.Need-add-out-2
 add-out-2 c = search needs
 
--- src/lib.rt:84:5
 mul-out-3 : tie.Need-mul-out-3
 mul-out-3 c = search needs
 
--- src/lib.rt:84:5
 slice-write-out-3 : tie.Need-slice-write-out-3
 slice-write-out-3 c = simp length-set (omega arith)
 
--- src/lib.rt:85:9
 add-out-3 : tie.Need-add-out-3
 add-out-3 c = search needs
 
--- src/lib.rt:85:5
 mul-out-4 : tie.Need-mul-out-4
 mul-out-4 c = search needs
 
--- src/lib.rt:85:5
 slice-write-out-4 : tie.Need-slice-write-out-4
 slice-write-out-4 c = simp length-set (omega arith)
 
--- src/lib.rt:77:1
 same-length : tie.Need-same-length
 same-length c = simp length-set
 
--- src/lib.rt:77:1
 returns : tie.Need-returns
 returns c = rw (← (c .words-of .ensures)) (simp towards-suc)
 

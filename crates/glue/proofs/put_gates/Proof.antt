@@ -1,21 +1,16 @@
-use Prim.Native.Nat.{ℕ, _+_, _*_, _≤_, _-_}
+use Prim.Native.Nat.{_+_, _≤_, _-_}
 use mathlib.Core.Path.{_≡_, refl, ap, _∙_}
-use mathlib.Core.List.{List, map}
+use mathlib.Core.List.{map}
 use native.Mathlib.Omega.{arith}
 use lib.ListN.{length}
 use Rattle.answer.specs.Fronts.{over}
 use Rattle.answer.proofs.Over.{length-over}
-use Rattle.netlist.specs.Words.{gatesWords, gatesAt, gateAt}
+use Rattle.netlist.specs.Words.{gatesWords, gatesAt}
 use Rattle.netlist.specs.Glue.{ren, thru}
 use Rattle.glue.proofs.Parts.{written-length, written-more, small-gate}
 use borrow.Author.Needs.{needs}
 use Rattle.glue.proofs.put_gates.Statement.{statement}
 use Rattle.glue.proofs.put_gates.Tie as tie
-use Rattle.glue.proofs.put_gates.Reads as reads
-use Rattle.glue.proofs.put_gates.Lts as lts
-use Rattle.glue.proofs.put_gate.Reads as put-gate-reads
-use Rattle.glue.proofs.renamed.Reads as renamed-reads
-use Rattle.netlist.proofs.gate.decoded.Reads as decoded-reads
 
 abbrev Inv-loop : tie.InvT-loop
 Inv-loop second gates outs base out₀ g₀ out g = (out ≡ over (gatesWords (map (ren (thru outs base)) (gatesAt second 3 g))) out₀) × (g ≤ gates) × (length out ≡ length out₀)
@@ -23,91 +18,70 @@ Inv-loop second gates outs base out₀ g₀ out g = (out ≡ over (gatesWords (m
 abbrev μ-loop : tie.MeasureT-loop
 μ-loop second gates outs base out₀ g₀ out g = gates - g
 
--- src/lib.rt:94:5
 loop-holds : tie.Need-loop-holds Inv-loop μ-loop
 unfolding over
 loop-holds c = (refl, search needs, search needs)
 
--- src/lib.rt:95:22
 mul-at : tie.Need-mul-at Inv-loop μ-loop
 mul-at c = search needs
 
--- src/lib.rt:95:18
 add-at : tie.Need-add-at Inv-loop μ-loop
 add-at c = search needs
 
--- src/lib.rt:96:40
 mul-decoded : tie.Need-mul-decoded Inv-loop μ-loop
 mul-decoded c = search needs
 
--- src/lib.rt:96:40
 shared-slice-read-decoded : tie.Need-shared-slice-read-decoded Inv-loop μ-loop
 shared-slice-read-decoded c = search needs
 
--- src/lib.rt:96:59
 add-decoded : tie.Need-add-decoded Inv-loop μ-loop
 add-decoded c = search needs
 
--- src/lib.rt:96:52
 mul-decoded-2 : tie.Need-mul-decoded-2 Inv-loop μ-loop
 mul-decoded-2 c = search needs
 
--- src/lib.rt:96:52
 shared-slice-read-decoded-2 : tie.Need-shared-slice-read-decoded-2 Inv-loop μ-loop
 shared-slice-read-decoded-2 c = search needs
 
--- src/lib.rt:96:75
 add-decoded-2 : tie.Need-add-decoded-2 Inv-loop μ-loop
 add-decoded-2 c = search needs
 
--- src/lib.rt:96:68
 mul-decoded-3 : tie.Need-mul-decoded-3 Inv-loop μ-loop
 mul-decoded-3 c = search needs
 
--- src/lib.rt:96:68
 shared-slice-read-decoded-3 : tie.Need-shared-slice-read-decoded-3 Inv-loop μ-loop
 shared-slice-read-decoded-3 c = search needs
 
--- src/lib.rt:96:91
 add-decoded-3 : tie.Need-add-decoded-3 Inv-loop μ-loop
 add-decoded-3 c = search needs
 
--- src/lib.rt:96:84
 mul-decoded-4 : tie.Need-mul-decoded-4 Inv-loop μ-loop
 mul-decoded-4 c = search needs
 
--- src/lib.rt:96:84
 shared-slice-read-decoded-4 : tie.Need-shared-slice-read-decoded-4 Inv-loop μ-loop
 shared-slice-read-decoded-4 c = search needs
 
--- src/lib.rt:96:13
 decoded-requires : tie.Need-decoded-requires Inv-loop μ-loop
 decoded-requires c κs = search needs
 
--- src/lib.rt:97:13
 renamed-requires : tie.Need-renamed-requires Inv-loop μ-loop
 renamed-requires c κs =
     let l = c .before .before .before .before .before .before .loop in
     let s = c .before .before .before .before .before .before .before .before .before .before in
     rw (c .decoded .ensures) (small-gate (s .args .second .now) (s .args .base) _ (l .g) (s .pre .0) (search needs))
 
--- src/lib.rt:98:23
 mul-put-gate : tie.Need-mul-put-gate Inv-loop μ-loop
 mul-put-gate c = search needs
 
--- src/lib.rt:98:9
 put-gate-requires : tie.Need-put-gate-requires Inv-loop μ-loop
 put-gate-requires c κs = search needs
 
--- src/lib.rt:99:9
 add-g : tie.Need-add-g Inv-loop μ-loop
 add-g c = search needs
 
--- src/lib.rt:94:5
 loop-less : tie.Need-loop-less Inv-loop μ-loop
 loop-less c = search needs
 
--- src/lib.rt:94:5
 loop-again : tie.Need-loop-again Inv-loop μ-loop
 loop-again c =
     let l = c .before .before .before .before .before .before .before .before .before .before .before .loop in
@@ -117,11 +91,9 @@ loop-again c =
     (written-more (a .second .now) (a .outs .now) (a .base) (a .out .now) (l .g) (search needs)) in
     (e, search needs, ap length e ∙ length-over _ (a .out .now) (omega (arith, written-length (a .second .now) (a .outs .now) (a .base) (a .out .now) (l .g + 1))))
 
--- src/lib.rt:89:1
 same-length : tie.Need-same-length Inv-loop μ-loop
 same-length c = search needs
 
--- src/lib.rt:89:1
 returns : tie.Need-returns Inv-loop μ-loop
 returns c =
     let e : c .before .loop .g ≡ c .before .before .before .before .before .args .gates = omega arith in

@@ -7,26 +7,19 @@ use Rattle.answer.proofs.Over.{over-sets}
 use borrow.Author.Needs.{needs}
 use Rattle.glue.proofs.put_header.Statement.{statement}
 use Rattle.glue.proofs.put_header.Tie as tie
-use Rattle.glue.proofs.put_header.Reads as reads
-use Rattle.glue.proofs.put_header.Lts as lts
 
--- src/lib.rt:132:5
 slice-write-out : tie.Need-slice-write-out
 slice-write-out c = search needs
 
--- src/lib.rt:133:5
 slice-write-out-2 : tie.Need-slice-write-out-2
 slice-write-out-2 c = simp length-set (omega arith)
 
--- src/lib.rt:134:5
 slice-write-out-3 : tie.Need-slice-write-out-3
 slice-write-out-3 c = simp length-set (omega arith)
 
--- src/lib.rt:128:1
 same-length : tie.Need-same-length
 same-length c = simp length-set
 
--- src/lib.rt:128:1
 returns : tie.Need-returns
 unfolding over
 returns c = over-sets [] (c .args .inputs ∷ c .args .gates ∷ c .args .outputs ∷ []) (c .args .out .now) 0 refl (c .pre)

@@ -9,9 +9,6 @@ use Rattle.netlist.specs.Glue.{thru}
 use borrow.Author.Needs.{needs}
 use Rattle.glue.proofs.put_outputs.Statement.{statement}
 use Rattle.glue.proofs.put_outputs.Tie as tie
-use Rattle.glue.proofs.put_outputs.Reads as reads
-use Rattle.glue.proofs.put_outputs.Lts as lts
-use Rattle.glue.proofs.wire.Reads as wire-reads
 
 abbrev Inv-loop : tie.InvT-loop
 Inv-loop wires outs base out₀ o₀ out o = (out ≡ over (map (thru outs base) (take o wires)) out₀) × (o ≤ length wires) × (length wires ≤ length out₀) × (length out ≡ length out₀)
@@ -19,51 +16,40 @@ Inv-loop wires outs base out₀ o₀ out o = (out ≡ over (map (thru outs base)
 abbrev μ-loop : tie.MeasureT-loop
 μ-loop wires outs base out₀ o₀ out o = length wires - o
 
--- src/lib.rt:109:5
 loop-holds : tie.Need-loop-holds Inv-loop μ-loop
 unfolding over
 loop-holds c = (refl, search needs, search needs, search needs)
 
--- src/lib.rt:110:34
 mul-wire : tie.Need-mul-wire Inv-loop μ-loop
 mul-wire c = search needs
 
--- src/lib.rt:110:34
 shared-slice-read-wire : tie.Need-shared-slice-read-wire Inv-loop μ-loop
 shared-slice-read-wire c = search needs
 
--- src/lib.rt:110:13
 wire-requires : tie.Need-wire-requires Inv-loop μ-loop
 wire-requires c κs = c .before .before .before .before .before .before .pre .1 (c .before .before .loop .o) (search needs)
 
--- src/lib.rt:111:9
 mul-out : tie.Need-mul-out Inv-loop μ-loop
 mul-out c = search needs
 
--- src/lib.rt:111:9
 slice-write-out : tie.Need-slice-write-out Inv-loop μ-loop
 slice-write-out c = search needs
 
--- src/lib.rt:112:9
 add-o : tie.Need-add-o Inv-loop μ-loop
 add-o c = search needs
 
--- src/lib.rt:109:5
 loop-less : tie.Need-loop-less Inv-loop μ-loop
 loop-less c = search needs
 
--- src/lib.rt:109:5
 loop-again : tie.Need-loop-again Inv-loop μ-loop
 loop-again c =
     let l = c .before .before .before .loop in
     let a = c .before .before .before .before .before .before .before .args in
     (rw (c .wire .ensures, l .inv .0) (over-map (thru (a .outs .now) (a .base)) (a .wires .now) (a .out .now) (l .o) (search needs) (search needs)), search needs, search needs, search needs)
 
--- src/lib.rt:104:1
 same-length : tie.Need-same-length Inv-loop μ-loop
 same-length c = search needs
 
--- src/lib.rt:104:1
 returns : tie.Need-returns Inv-loop μ-loop
 returns c =
     let l = c .before .loop in

@@ -7,68 +7,49 @@ use Rattle.glue.proofs.Parts.{tail-is, tail-room, kept-length, written-
 use borrow.Author.Needs.{needs}
 use Rattle.glue.proofs.put_second.Statement.{statement}
 use Rattle.glue.proofs.put_second.Tie as tie
-use Rattle.glue.proofs.put_second.Reads as reads
-use Rattle.glue.proofs.put_second.Lts as lts
-use Rattle.glue.proofs.put_gates.Reads as put-gates-reads
-use Rattle.glue.proofs.put_outputs.Reads as put-outputs-reads
 
--- src/lib.rt:121:17
 shared-slice-read-gates : tie.Need-shared-slice-read-gates
 shared-slice-read-gates c = search needs
 
--- src/lib.rt:121:17
 cast-gates : tie.Need-cast-gates
 cast-gates c = search needs
 
--- src/lib.rt:122:21
 mul-start : tie.Need-mul-start
 mul-start c = search needs
 
--- src/lib.rt:122:17
 add-start : tie.Need-add-start
 add-start c = search needs
 
--- src/lib.rt:123:15
 mul-end : tie.Need-mul-end
 mul-end c = search needs
 
--- src/lib.rt:124:5
 put-gates-requires : tie.Need-put-gates-requires
 put-gates-requires c κs = search needs
 
--- src/lib.rt:125:17
 mul-put-outputs : tie.Need-mul-put-outputs
 mul-put-outputs c = search needs
 
--- src/lib.rt:125:17
 sub-put-outputs : tie.Need-sub-put-outputs
 sub-put-outputs c = search needs
 
--- src/lib.rt:125:17
 part-put-outputs-start : tie.Need-part-put-outputs-start
 part-put-outputs-start c = search needs
 
--- src/lib.rt:125:17
 part-put-outputs-end : tie.Need-part-put-outputs-end
 part-put-outputs-end c = search needs
 
--- src/lib.rt:125:47
 mul-put-outputs-2 : tie.Need-mul-put-outputs-2
 mul-put-outputs-2 c = search needs
 
--- src/lib.rt:125:47
 sub-put-outputs-2 : tie.Need-sub-put-outputs-2
 sub-put-outputs-2 c = search needs
 
--- src/lib.rt:125:47
 part-put-outputs-start-2 : tie.Need-part-put-outputs-start-2
 part-put-outputs-start-2 c = search needs
 
--- src/lib.rt:125:47
 part-put-outputs-end-2 : tie.Need-part-put-outputs-end-2
 part-put-outputs-end-2 c = search needs
 
--- src/lib.rt:125:5
 put-outputs-requires : tie.Need-put-outputs-requires
 put-outputs-requires c κs =
     let s = c .before .before .before .before .before .before .before .before .before .before in
@@ -79,11 +60,9 @@ put-outputs-requires c κs =
       rw (tail-is (gatePlace (gatesOf b)) b) (small-outs b (s .args .base) _ (s .pre)),
     )
 
--- src/lib.rt:117:1
 same-length : tie.Need-same-length
 same-length c = search needs
 
--- src/lib.rt:117:1
 returns : tie.Need-returns
 returns c =
     let a = c .before .before .before .before .before .before .before .before .before .before .before .before .before .args in

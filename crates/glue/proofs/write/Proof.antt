@@ -10,11 +10,6 @@ use Rattle.glue.proofs.Parts.{tail-room, firstWords, firstWords-length,
 use borrow.Author.Needs.{needs}
 use Rattle.glue.proofs.write.Statement.{statement}
 use Rattle.glue.proofs.write.Tie as tie
-use Rattle.glue.proofs.write.Reads as reads
-use Rattle.glue.proofs.write.Lts as lts
-use Rattle.glue.proofs.copy.Reads as copy-reads
-use Rattle.glue.proofs.put_header.Reads as put-header-reads
-use Rattle.glue.proofs.put_second.Reads as put-second-reads
 
 -- what stands once the first netlist's gates are copied
 first-is : (c : tie.After-copy) →
@@ -25,107 +20,81 @@ first-is c =
     let s = c .before .before .before .before .before .before .before .before .before .before .before .before .before .before in
     first-written (s .args .first .now) (s .args .second .now) (s .args .out .now) (search needs) (c .before .before .before .before .before .put-header .ensures) (c .copy .ensures)
 
--- src/lib.rt:153:18
 shared-slice-read-inputs : tie.Need-shared-slice-read-inputs
 shared-slice-read-inputs c = search needs
 
--- src/lib.rt:154:17
 shared-slice-read-gates : tie.Need-shared-slice-read-gates
 shared-slice-read-gates c = search needs
 
--- src/lib.rt:155:23
 cast-at : tie.Need-cast-at
 cast-at c = search needs
 
--- src/lib.rt:155:18
 mul-at : tie.Need-mul-at
 mul-at c = search needs
 
--- src/lib.rt:155:14
 add-at : tie.Need-add-at
 add-at c = search needs
 
--- src/lib.rt:156:37
 shared-slice-read-put-header : tie.Need-shared-slice-read-put-header
 shared-slice-read-put-header c = search needs
 
--- src/lib.rt:156:29
 add-put-header : tie.Need-add-put-header
 add-put-header c = search needs
 
--- src/lib.rt:156:48
 shared-slice-read-put-header-2 : tie.Need-shared-slice-read-put-header-2
 shared-slice-read-put-header-2 c = search needs
 
--- src/lib.rt:156:5
 put-header-requires : tie.Need-put-header-requires
 put-header-requires c κs = search needs
 
--- src/lib.rt:157:10
 sub-copy : tie.Need-sub-copy
 sub-copy c = search needs
 
--- src/lib.rt:157:10
 part-copy-start : tie.Need-part-copy-start
 part-copy-start c = search needs
 
--- src/lib.rt:157:10
 part-copy-end : tie.Need-part-copy-end
 part-copy-end c = search needs
 
--- src/lib.rt:157:25
 sub-copy-2 : tie.Need-sub-copy-2
 sub-copy-2 c = search needs
 
--- src/lib.rt:157:25
 part-copy-start-2 : tie.Need-part-copy-start-2
 part-copy-start-2 c = search needs
 
--- src/lib.rt:157:25
 part-copy-end-2 : tie.Need-part-copy-end-2
 part-copy-end-2 c = search needs
 
--- src/lib.rt:157:5
 copy-requires : tie.Need-copy-requires
 copy-requires c κs = search needs
 
--- src/lib.rt:158:24
 mul-put-second : tie.Need-mul-put-second
 mul-put-second c = search needs
 
--- src/lib.rt:158:24
 sub-put-second : tie.Need-sub-put-second
 sub-put-second c = search needs
 
--- src/lib.rt:158:24
 part-put-second-start : tie.Need-part-put-second-start
 part-put-second-start c = search needs
 
--- src/lib.rt:158:24
 part-put-second-end : tie.Need-part-put-second-end
 part-put-second-end c = search needs
 
--- src/lib.rt:158:38
 add-put-second : tie.Need-add-put-second
 add-put-second c = search needs
 
--- src/lib.rt:158:54
 mul-put-second-2 : tie.Need-mul-put-second-2
 mul-put-second-2 c = search needs
 
--- src/lib.rt:158:54
 sub-put-second-2 : tie.Need-sub-put-second-2
 sub-put-second-2 c = search needs
 
--- src/lib.rt:158:54
 part-put-second-start-2 : tie.Need-part-put-second-start-2
 part-put-second-start-2 c = search needs
 
--- src/lib.rt:158:54
 part-put-second-end-2 : tie.Need-part-put-second-end-2
 part-put-second-end-2 c = search needs
 
--- src/lib.rt:158:5
 put-second-requires : tie.Need-put-second-requires
 put-second-requires c κs =
     let s = c .before .before .before .before .before .before .before .before .before .before .before .before .before .before .before .before .before .before in
@@ -138,11 +107,9 @@ put-second-requires c κs =
       space = omega (arith, tail-room (gatePlace (gatesOf a)) mid, length-over (firstWords a (s .args .second .now)) (s .args .out .now) (omega (arith, firstWords-length a (s .args .second .now) (s .pre .first), s .pre .space)), s .pre .space);
     }
 
--- src/lib.rt:149:1
 same-length : tie.Need-same-length
 same-length c = search needs
 
--- src/lib.rt:149:1
 returns : tie.Need-returns
 returns c =
     let s = c .before .before .before .before .before .before .before .before .before .before .before .before .before .before .before .before .before .before .before .before .before in

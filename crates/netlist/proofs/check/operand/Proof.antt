@@ -6,17 +6,13 @@ use Rattle.answer.specs.Answers.{refuse}
 use Rattle.netlist.specs.Check.{operandAnswer}
 use Rattle.netlist.proofs.check.operand.Statement.{statement}
 use Rattle.netlist.proofs.check.operand.Tie as tie
-use Rattle.netlist.proofs.check.operand.Reads as reads
-use Rattle.netlist.proofs.check.operand.Lts as lts
 
--- src/check.rt:18:9
 returns : tie.Need-returns
 unfolding operandAnswer refuse
 returns c = ⊎-elim (λ w. simp (w .0 .taken, le-leb _ _ (rw (w .1) at (c .if2 .taken))))
     (λ w. simp (w .0 .left, lt-ltb _ _ (rw (w .1) at (c .if2 .taken))))
     (c .before .if1 .came)
 
--- src/check.rt:13:1
 returns-2 : tie.Need-returns-2
 unfolding operandAnswer refuse
 returns-2 c = ⊎-elim (λ w. simp (w .0 .taken, lt-leb _ _ (rw (w .1) at (c .if2 .left))))

@@ -2,31 +2,22 @@ use Rattle.answer.proofs.Rows.{stop, go}
 use borrow.Author.Needs.{needs}
 use Rattle.netlist.proofs.check.wires.Statement.{statement}
 use Rattle.netlist.proofs.check.wires.Tie as tie
-use Rattle.netlist.proofs.check.wires.Reads as reads
-use Rattle.netlist.proofs.check.wires.Lts as lts
-use Rattle.netlist.proofs.check.gates.Reads as gates-reads
-use Rattle.netlist.proofs.check.outputs.Reads as outputs-reads
 
--- src/check.rt:145:9
 gates-requires : tie.Need-gates-requires
 gates-requires c κs = search needs
 
 enum-told : tie.Need-enum-told
 enum-told c = search needs
 
--- src/check.rt:147:9
 enum-told-2 : tie.Need-enum-told-2
 enum-told-2 c = search needs
 
--- src/check.rt:147:9
 returns : tie.Need-returns
 returns c = stop _ (c .before .before .gates .ensures) (c .enum-told2 .given .1)
 
--- src/check.rt:149:5
 outputs-requires : tie.Need-outputs-requires
 outputs-requires c κs = search needs
 
--- src/check.rt:141:1
 returns-2 : tie.Need-returns-2
 returns-2 c = go (c .before .before .before .gates .ensures) (c .before .enum-told .given .1) (c .outputs .ensures)
 

@@ -6,11 +6,6 @@ use Rattle.answer.proofs.Rows.{stop, go}
 use borrow.Author.Needs.{needs}
 use Rattle.netlist.proofs.check.words.Statement.{statement}
 use Rattle.netlist.proofs.check.words.Tie as tie
-use Rattle.netlist.proofs.check.words.Reads as reads
-use Rattle.netlist.proofs.check.words.Lts as lts
-use Rattle.netlist.proofs.check.operand.Reads as operand-reads
-use Rattle.netlist.proofs.gate.take_apart.Reads as take-apart-reads
-use Rattle.netlist.proofs.gate.uses.Reads as uses-reads
 
 -- the words are those of the gate that was taken
 is-gate : (c : tie.After-uses) →
@@ -18,65 +13,52 @@ is-gate : (c : tie.After-uses) →
     ≡ Valid (c .before .before .t .given .0 .0)
 is-gate c = sym (c .before .before .before .before .take-apart .ensures) ∙ c .before .before .t .given .1
 
--- src/check.rt:38:9
 take-apart-requires : tie.Need-take-apart-requires
 take-apart-requires c κs = search needs
 
--- src/check.rt:39:22
 enum-known-t : tie.Need-enum-known-t
 enum-known-t c = search needs
 
--- src/check.rt:40:9
 enum-told : tie.Need-enum-told
 enum-told c = search needs
 
--- src/check.rt:40:9
 returns : tie.Need-returns
 unfolding takenAnswer wordsAnswer
 returns c = rw (sym (c .before .before .take-apart .ensures) ∙ c .enum-told .given .1)
 
--- src/check.rt:46:9
 uses-requires : tie.Need-uses-requires
 uses-requires c κs = search needs
 
--- src/check.rt:47:47
 add-operand : tie.Need-add-operand
 add-operand c = search needs
 
--- src/check.rt:47:9
 operand-requires : tie.Need-operand-requires
 operand-requires c κs = search needs
 
 enum-told-2 : tie.Need-enum-told-2
 enum-told-2 c = search needs
 
--- src/check.rt:49:9
 enum-told-3 : tie.Need-enum-told-3
 enum-told-3 c = search needs
 
--- src/check.rt:49:9
 returns-2 : tie.Need-returns-2
 unfolding takenAnswer wordsAnswer
 returns-2 c =
     let o = c .before .before in
     rw (is-gate (o .before), ← (o .before .uses .ensures)) (stop _ (o .operand .ensures) (c .enum-told3 .given .1))
 
--- src/check.rt:51:48
 add-operand-2 : tie.Need-add-operand-2
 add-operand-2 c = search needs
 
--- src/check.rt:51:9
 operand-requires-2 : tie.Need-operand-requires-2
 operand-requires-2 c κs = search needs
 
 enum-told-4 : tie.Need-enum-told-4
 enum-told-4 c = search needs
 
--- src/check.rt:53:9
 enum-told-5 : tie.Need-enum-told-5
 enum-told-5 c = search needs
 
--- src/check.rt:53:9
 returns-3 : tie.Need-returns-3
 unfolding takenAnswer wordsAnswer
 returns-3 c =
@@ -85,15 +67,12 @@ returns-3 c =
     rw (is-gate (o .before), ← (o .before .uses .ensures))
     (go (o .operand .ensures) (p .before .enum-told2 .given .1) (stop _ (p .operand2 .ensures) (c .enum-told5 .given .1)))
 
--- src/check.rt:55:35
 add-operand-3 : tie.Need-add-operand-3
 add-operand-3 c = search needs
 
--- src/check.rt:55:5
 operand-requires-3 : tie.Need-operand-requires-3
 operand-requires-3 c κs = search needs
 
--- src/check.rt:34:1
 returns-4 : tie.Need-returns-4
 unfolding takenAnswer wordsAnswer
 returns-4 c =
