@@ -4,15 +4,15 @@ use mathlib.Core.Path.{_≡_, refl, sym, ap, ap₂, _∙_}
 use mathlib.Core.List.{List, [], _∷_, _++_, map}
 use native.Mathlib.Omega.{arith}
 use native.Mathlib.Numerals.{add-one}
-use lib.ListN.{length, getD, set, take, drop, length-drop, length-map, length-take, take-append-drop, List·getD-eq-default}
+use lib.ListN.{length, getD, set, take, drop, length-drop, length-map, length-take, take-append-drop}
 use lib.Seq.{length-take-le, take-suc, take-all, getD-drop, getD-take}
 use Rattle.answer.specs.Fronts.{over}
 use Rattle.answer.proofs.Over.{over-none, over-next, over-at, over-take, length-over, take-over, over-over}
 use Rattle.netlist.specs.Net.{Uses, at, step, run, valAlg, values, eval, Below}
 use Rattle.netlist.specs.Words.{inputsOf, gatesOf, outputsOf, gatePlace, gateAt, gatesAt, netOf}
 use Rattle.netlist.proofs.Gates.{operands-low}
-use Rattle.netlist.proofs.Sim.{run-append, run-length, step-front, each-map, split}
-use Rattle.netlist.proofs.Bits.{Bits, run-bits}
+use Rattle.netlist.proofs.Sim.{run-append, run-length, step-front, each-map}
+use Rattle.netlist.proofs.Bits.{Bits, bits-within, run-bits}
 use Rattle.netlist.proofs.Glued.{map-append}
 use Rattle.netlist.proofs.Words.{gates-length, gates-snoc, outs-length, sound-valid}
 use Rattle.evaluate.specs.Ready.{Ready}
@@ -72,10 +72,9 @@ module _ (net : List ℕ) (I : ℕ) (vals : List ℕ) where
       (f .uses n h))
     where
       input-bits : ((i : ℕ) → i < I → getD vals i 0 ≤ 1) → Bits (take I vals)
-      input-bits b i =
-          split i I
-          (λ h. rw (getD-take I vals i 0 h) (b i h))
-          (λ h. omega (arith, List·getD-eq-default (take I vals) 0 {n = i} (omega (arith, length-take I vals))))
+      input-bits b =
+          bits-within (take I vals)
+          (λ i h. let l : i < I = omega (arith, length-take I vals) in rw (getD-take I vals i 0 l) (b i l))
 
 -- The outputs.
 module _ (net vals : List ℕ) (start : ℕ) (outs : List ℕ) where

@@ -1,17 +1,22 @@
 -- On bits, every wire of a netlist carries a bit.
-use Prim.Native.Nat.{ℕ, zero, suc, _≤_}
+use Prim.Native.Nat.{ℕ, zero, suc, _<_, _≤_}
 use mathlib.Core.Bool.{Bool, true, false}
 use mathlib.Core.List.{List, [], _∷_, _++_}
 use native.Mathlib.Omega.{arith}
-use lib.ListN.{getD}
+use lib.ListN.{length, getD, List·getD-eq-default}
 use lib.Dec.{eqb}
 use Rattle.answer.specs.Choose.{choose}
 use Rattle.netlist.specs.declared.gate.Gate.{Gate}
 use Rattle.netlist.specs.declared.gate.Gate.the-variants.{Zero, One, Not, Xor, And, Mux}
 use Rattle.netlist.specs.Net.{step, run, valAlg}
+use Rattle.netlist.proofs.Sim.{split}
 
 abbrev pub Bits : List ℕ → Type 0
 Bits v = (i : ℕ) → getD v i 0 ≤ 1
+
+-- it is enough to look within the list
+pub bits-within : (v : List ℕ) → ((i : ℕ) → i < length v → getD v i 0 ≤ 1) → Bits v
+bits-within v h i = split i (length v) (h i) (λ l. omega (arith, List·getD-eq-default v 0 {n = i} l))
 
 choose-bit : (t : Bool) {x y : ℕ} → x ≤ 1 → y ≤ 1 → choose t x y ≤ 1
 choose-bit true p q = p

@@ -1,0 +1,27 @@
+-- Every public call's promise decides the outcome: two outcomes that both meet it are equal.
+use Prim.Native.Nat.{ℕ}
+use mathlib.Core.Path.{_≡_, sym, ap, _∙_}
+use mathlib.Core.List.{List}
+use Rattle.answer.specs.declared.Answer.{Answer}
+use Rattle.answer.specs.Fronts.{left}
+use Rattle.netlist.specs.Check.{netAnswer}
+use Rattle.evaluate.specs.Evaluate.{Evaluated}
+use Rattle.glue.specs.Glue.{GluedAs}
+
+-- two lists that were left by equal answers
+same-left : {r s : Answer} (front old : List ℕ) {x y : List ℕ} → r ≡ s → x ≡ left r front old → y ≡ left s front old → x ≡ y
+same-left front old e p q = p ∙ ap (λ (t : Answer). left t front old) e ∙ sym q
+
+pub check-decides : (l : ℕ) (net : List ℕ) {r s : Answer} → r ≡ netAnswer l net → s ≡ netAnswer l net → r ≡ s
+check-decides l net p q = p ∙ sym q
+
+pub evaluate-decides : (net inputs vals outs : List ℕ) {r s : Answer} {v w o p : List ℕ}
+    → Evaluated net inputs vals outs r v o → Evaluated net inputs vals outs s w p → (r ≡ s) × (v ≡ w) × (o ≡ p)
+evaluate-decides net inputs vals outs x y =
+    let e = x .answered ∙ sym (y .answered) in
+    (e, same-left _ _ e (x .filled) (y .filled), same-left _ _ e (x .given) (y .given))
+
+pub glue-decides : (a b out : List ℕ) {r s : Answer} {v w : List ℕ} → GluedAs a b out r v → GluedAs a b out s w → (r ≡ s) × (v ≡ w)
+glue-decides a b out x y =
+    let e = x .answered ∙ sym (y .answered) in
+    (e, same-left _ _ e (x .written) (y .written))
