@@ -1,0 +1,39 @@
+-- What an exported call returns and leaves: the call's own outcome, its answer as number, list and place.
+use Prim.Native.Nat.{ℕ}
+use mathlib.Core.Path.{_≡_}
+use mathlib.Core.List.{List}
+use Rattle.answer.specs.declared.Answer.{Answer}
+use Rattle.answer.specs.Answers.{numberOf, listOf, placeOf}
+use Rattle.evaluate.specs.Evaluate.{Evaluated}
+use Rattle.meter.specs.declared.Metered.{Metered}
+use Rattle.meter.specs.Meter.{MeteredAs}
+use Rattle.glue.specs.Glue.{GluedAs}
+use Rattle.probe.specs.declared.Reply.{Reply}
+use Rattle.probe.specs.declared.Metering.{Metering}
+
+unfoldable pub replyOf : Answer → Reply
+replyOf a = record { number = numberOf a; list = listOf a; place = placeOf a }
+
+pub record EvaluateReply (net inputs vals outs : List ℕ) (r : Reply) (vals′ outs′ : List ℕ) : Type 0 where
+  pub answer : Answer
+  pub outcome : Evaluated net inputs vals outs answer vals′ outs′
+  pub told : r ≡ replyOf answer
+
+unfoldable pub meteringOf : Metered → Metering
+meteringOf m = record {
+  number = numberOf (m .answer);
+  list = listOf (m .answer);
+  place = placeOf (m .answer);
+  depth = m .depth;
+  multiplications = m .multiplications;
+}
+
+pub record MeterReply (net ds ands muxes : List ℕ) (r : Metering) (ds′ ands′ muxes′ : List ℕ) : Type 0 where
+  pub metered : Metered
+  pub outcome : MeteredAs net ds ands muxes metered ds′ ands′ muxes′
+  pub told : r ≡ meteringOf metered
+
+pub record GlueReply (a b out : List ℕ) (r : Reply) (out′ : List ℕ) : Type 0 where
+  pub answer : Answer
+  pub outcome : GluedAs a b out answer out′
+  pub told : r ≡ replyOf answer

@@ -1,0 +1,91 @@
+// The public calls, exported for the tests alone. Lists pass as a pointer and a length, an answer as its
+// number, list and place: 0, 0, 0 for done.
+use answer::Answer;
+ghost use mathlib.Core.Path.{_≡_};
+ghost use lib.ListN.{length};
+ghost use Rattle.netlist.specs.Check.{netAnswer};
+ghost use Rattle.probe.specs.Replies.{replyOf, EvaluateReply, MeterReply, GlueReply};
+
+#[repr(C)]
+pub struct Reply {
+    pub number: u32,
+    pub list: u32,
+    pub place: usize,
+}
+
+#[repr(C)]
+pub struct Metering {
+    pub number: u32,
+    pub list: u32,
+    pub place: usize,
+    pub depth: u32,
+    pub multiplications: u32,
+}
+
+fn reply(answer: Answer) -> Reply
+    ensures { λ r. ⌜ r ≡ replyOf answer ⌝ }
+{
+    match answer {
+        Answer::Done => Reply {
+            number: 0,
+            list: 0,
+            place: 0,
+        },
+        Answer::Refused {
+            number,
+            list,
+            place,
+        } => Reply {
+            number,
+            list,
+            place,
+        },
+    }
+}
+
+#[no_mangle]
+pub extern "C" fn probe_check(net: &[u32]) -> Reply
+    ensures { λ r. ⌜ r ≡ replyOf (netAnswer 1 (now (net .entry))) ⌝ }
+{
+    reply(netlist::check::check(net))
+}
+
+#[no_mangle]
+pub extern "C" fn probe_evaluate(
+    net: &[u32],
+    inputs: &[u8],
+    values: &mut [u8],
+    outputs: &mut [u8],
+) -> Reply
+    ensures { λ r. ⌜ EvaluateReply (now (net .entry)) (now (inputs .entry)) (now (values .entry)) (now (outputs .entry)) r (now (values .exit)) (now (outputs .exit)) ⌝ }
+{
+    reply(evaluate::evaluate(net, inputs, values, outputs))
+}
+
+#[no_mangle]
+pub extern "C" fn probe_meter(
+    net: &[u32],
+    depths: &mut [u32],
+    ands: &mut [u32],
+    muxes: &mut [u32],
+) -> Metering
+    ensures { λ r. ⌜ MeterReply (now (net .entry)) (now (depths .entry)) (now (ands .entry)) (now (muxes .entry)) r (now (depths .exit)) (now (ands .exit)) (now (muxes .exit)) ⌝ }
+{
+    let m = meter::meter(net, depths, ands, muxes);
+    let answer = m.answer;
+    let r = reply(answer);
+    Metering {
+        number: r.number,
+        list: r.list,
+        place: r.place,
+        depth: m.depth,
+        multiplications: m.multiplications,
+    }
+}
+
+#[no_mangle]
+pub extern "C" fn probe_glue(first: &[u32], second: &[u32], out: &mut [u32]) -> Reply
+    ensures { λ r. ⌜ GlueReply (now (first .entry)) (now (second .entry)) (now (out .entry)) r (now (out .exit)) ⌝ }
+{
+    reply(glue::glue(first, second, out))
+}
