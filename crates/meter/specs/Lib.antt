@@ -1,2 +1,3 @@
 pub mod Levels
 pub mod Meter
+pub mod Passes
