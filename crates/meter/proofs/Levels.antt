@@ -19,8 +19,8 @@ use Rattle.netlist.specs.Words.{inputsOf, gatesOf, gatePlace, gateAt, gatesAt, 
 use Rattle.netlist.proofs.Sim.{length-snoc, split, split-suc}
 use Rattle.netlist.proofs.Words.{gates-snoc}
 use Rattle.meter.specs.Levels.{one, andKind, muxKind, kindCount, hits, hitsBelow, levelCount, levels, total}
-use Rattle.meter.specs.Passes.{levelsTo}
-use Rattle.meter.proofs.Depths.{gate-level}
+use Rattle.meter.specs.Passes.{levelsTo, Counts, CountedAs}
+use Rattle.meter.proofs.Depths.{depths-whole, depths-length, gate-level}
 
 -- gate g is of kind code k; the depth that ds has of it
 abbrev pub kindIs : List ℕ → ℕ → ℕ → Bool
@@ -220,3 +220,37 @@ module _ (net : List ℕ) (k : ℕ) where
         rw (level-is, e, is, h, add-one g, long, long′)
         (set-append-left now (drop n old) d _ (omega (arith, gate-level (netOf net) g))
         ∙ ap (λ (t : List ℕ). t ++ drop n old) (below-more net D k g n (gate-level (netOf net) g)))
+
+    pub level-fits : {a : ℕ} → a ≡ one (kindIs net k g) → getD v l 0 + a ≤ g + 1
+    level-fits h = omega (arith, level-le, one-le (kindIs net k g))
+
+-- where gate g is counted
+module _ {net : List ℕ} {i n : ℕ} {ds ands muxes : List ℕ} (s : Counts net i n ds ands muxes) (g : ℕ) (less : g < n) where
+  pub level-of : getD ds (i + g) 0 ≡ getD (depths (netOf net)) (inputsOf net + g) 0
+  level-of =
+      let D = depths (netOf net) in
+      let long : length D ≡ inputsOf net + gatesOf net = ap length (sym (depths-whole net)) ∙ depths-length net (gatesOf net) in
+      ap (λ (l : List ℕ). getD l (i + g) 0) (s .stand)
+      ∙ over-at D ds (i + g) (omega (arith, s .lent .inputs, s .lent .gates))
+      ∙ ap (λ (j : ℕ). getD D (j + g) 0) (s .lent .inputs)
+
+  pub level-ands : getD ds (i + g) 0 < length ands
+  level-ands = omega (arith, level-of, gate-level (netOf net) g, s .andRoom)
+
+  pub level-muxes : getD ds (i + g) 0 < length muxes
+  level-muxes = omega (arith, level-of, gate-level (netOf net) g, s .muxRoom)
+
+-- the number of gates counted so far
+module _ (net : List ℕ) (g : ℕ) {n a m : ℕ} (e : n ≡ kindCount net andKind g + kindCount net muxKind g) (p : a ≡ one (kindIs net andKind g)) (q : m ≡ one (kindIs net muxKind g)) where
+  pub count-fits : n + a + m ≤ g + g + 2
+  count-fits = omega (arith, kinds-le net andKind g, kinds-le net muxKind g, one-le (kindIs net andKind g), one-le (kindIs net muxKind g))
+
+  pub count-more : n + a + m ≡ kindCount net andKind (g + 1) + kindCount net muxKind (g + 1)
+  count-more = omega (arith, kinds-more net andKind g, kinds-more net muxKind g)
+
+pub count-none : (net : List ℕ) → 0 ≡ kindCount net andKind 0 + kindCount net muxKind 0
+count-none net = omega (arith, kinds-none net andKind, kinds-none net muxKind)
+
+pub counted : {net ands muxes ands′ muxes′ : List ℕ} (g : ℕ) {n : ℕ} → g ≡ gatesOf net → n ≡ kindCount net andKind g + kindCount net muxKind g
+    → ands′ ≡ over (levelsTo net andKind g) ands → muxes′ ≡ over (levelsTo net muxKind g) muxes → CountedAs net ands muxes n ands′ muxes′
+counted g e h a m = record { all = rw (← e) h; andsTold = rw (← e) a; muxesTold = rw (← e) m }
