@@ -1,9 +1,8 @@
 -- Laws of depths: their bounds, one more gate, and the largest of them.
-use Prim.Native.Nat.{ℕ, zero, suc, _+_, _*_, _<_, _≤_, max, zero-le}
+use Prim.Native.Nat.{ℕ, zero, suc, _+_, _<_, _≤_, max, zero-le}
 use mathlib.Core.Path.{_≡_, refl, sym, ap, ap₂, subst, _∙_}
 use mathlib.Core.List.{List, [], _∷_, _++_, map}
 use native.Mathlib.Omega.{arith}
-use native.Mathlib.Nat.{add-zero, max-zero}
 use native.Mathlib.Numerals.{add-one}
 use lib.ListN.{length, getD, set, take, drop, replicate, length-replicate, length-drop, take-append-drop}
 use lib.Seq.{take-suc, take-length, take-append-seam, take-take, take-all, getD-drop}
@@ -13,8 +12,7 @@ use Rattle.answer.proofs.Over.{over-next, over-at, over-over, length-over, take
 use Rattle.netlist.specs.declared.gate.Gate.{Gate}
 use Rattle.netlist.specs.declared.gate.Gate.the-variants.{Zero, One, Not, Xor, And, Mux}
 use Rattle.netlist.specs.Net.{Net, Alg, at, step, run, depAlg, maxOf, depths, depth, wiresOf, Uses, Below}
-use Rattle.netlist.specs.Words.{inputsOf, gatesOf, outputsOf, gatePlace, gateAt, gatesAt, netOf}
-use Rattle.netlist.specs.Check.{gateLimit}
+use Rattle.netlist.specs.Words.{inputsOf, gatesOf, gatePlace, gateAt, gatesAt, netOf}
 use Rattle.netlist.specs.Sound.{Sound}
 use Rattle.netlist.proofs.Sim.{length-snoc, run-append, run-length, step-front, each-map}
 use Rattle.netlist.proofs.Glued.{map-append, at-le-max}
@@ -108,7 +106,7 @@ module _ {net : List ℕ} {i n : ℕ} {old : List ℕ} (s : Lent net i n old) (g
       (λ a k. (
         omega (arith, front-length, s .room),
         let r : getD out a 0 ≡ getD (depthsTo net g) a 0 = rw e (over-at (depthsTo net g) old a k) in
-        omega (arith, depths-le net g a, s .gates, s .sound .limits .gates),
+            omega (arith, depths-le net g a, s .gates, s .sound .limits .gates),
       ))
       uses
 
@@ -180,3 +178,16 @@ outs-depth net old s =
     ap maxOf
     (map-below _ _ (wiresOf (netOf net)) (netOf net .outs) (sound-valid net s .outs)
     (λ i h. over-at (depths (netOf net)) old i (omega (arith, l, gates-length net 3 (gatesOf net)))))
+
+-- For the two passes that fill the depths: the first leaves what the second asks, and both together fill.
+module _ {net : List ℕ} {i g : ℕ} {ds mid : List ℕ} (s : Lent net i g ds) (e : mid ≡ over (replicate i 0) ds) where
+  pub inputs-stand : Lent net i g mid × (mid ≡ over (replicate i 0) mid)
+  inputs-stand =
+      let long : length mid ≡ length ds = ap length e ∙ length-over (replicate i 0) ds (omega (arith, length-replicate {A = ℕ} i 0, s .room)) in
+      (record { sound = s .sound; inputs = s .inputs; gates = s .gates; room = omega (arith, s .room) }, over-stands (replicate i 0) ds e)
+
+  pub both-fill : {new : List ℕ} → new ≡ over (depthsTo net g) mid → new ≡ over (depthsTo net g) ds
+  both-fill h =
+      h
+      ∙ ap (over (depthsTo net g)) e
+      ∙ over-over (replicate i 0) (depthsTo net g) ds (omega (arith, length-replicate {A = ℕ} i 0, depths-length net g, s .inputs))

@@ -1,17 +1,17 @@
 -- Laws of the level records: one more gate, what they sum to, and the multiplications.
-use Prim.Native.Nat.{ℕ, zero, suc, _+_, _*_, _<_, _≤_}
-use mathlib.Core.Path.{_≡_, refl, sym, ap, ap₂, _∙_}
+use Prim.Native.Nat.{ℕ, zero, suc, _+_, _<_, _≤_}
+use mathlib.Core.Path.{_≡_, refl, sym, ap, _∙_}
 use mathlib.Core.Bool.{Bool, true, false, _&&_}
 use mathlib.Core.List.{List, [], _∷_, _++_}
 use native.Mathlib.Omega.{arith}
 use native.Mathlib.Nat.{add-zero}
 use native.Mathlib.Numerals.{add-one}
 use lib.Dec.{eqb, ltb}
-use lib.ListN.{length, getD, set, drop, replicate, length-set, length-append, length-replicate, getD-replicate, List·getD-append}
+use lib.ListN.{length, getD, set, drop, replicate, length-set, length-replicate, getD-replicate, List·getD-append}
 use lib.Seq.{ext-getD, getD-set-same, getD-set-other, set-append-left, getD-append-seam}
 use borrow.Author.Tests.{eq-eqb, ne-eqb, lt-ltb, le-ltb}
 use Rattle.answer.specs.Fronts.{over}
-use Rattle.answer.proofs.Over.{over-at, length-over}
+use Rattle.answer.proofs.Over.{over-at, over-over, length-over}
 use Rattle.netlist.specs.declared.gate.Gate.{Gate}
 use Rattle.netlist.specs.Gates.{takenOf, gateOf}
 use Rattle.netlist.specs.Net.{depths, mulOf, mulsOf, mults}
@@ -20,7 +20,7 @@ use Rattle.netlist.proofs.Sim.{length-snoc, split, split-suc}
 use Rattle.netlist.proofs.Words.{gates-snoc}
 use Rattle.meter.specs.Levels.{one, andKind, muxKind, kindCount, hits, hitsBelow, levelCount, levels, total}
 use Rattle.meter.specs.Passes.{levelsTo, Counts, CountedAs}
-use Rattle.meter.proofs.Depths.{depths-whole, depths-length, gate-level}
+use Rattle.meter.proofs.Depths.{over-stands, depths-whole, depths-length, gate-level}
 
 -- gate g is of kind code k; the depth that ds has of it
 abbrev pub kindIs : List ℕ → ℕ → ℕ → Bool
@@ -254,3 +254,42 @@ count-none net = omega (arith, kinds-none net andKind, kinds-none net muxKind)
 pub counted : {net ands muxes ands′ muxes′ : List ℕ} (g : ℕ) {n : ℕ} → g ≡ gatesOf net → n ≡ kindCount net andKind g + kindCount net muxKind g
     → ands′ ≡ over (levelsTo net andKind g) ands → muxes′ ≡ over (levelsTo net muxKind g) muxes → CountedAs net ands muxes n ands′ muxes′
 counted g e h a m = record { all = rw (← e) h; andsTold = rw (← e) a; muxesTold = rw (← e) m }
+
+-- For the levels cleared and then counted.
+module _ (net : List ℕ) (n : ℕ) (e : n ≡ levelCount (netOf net)) where
+  module _ (old : List ℕ) {mid : List ℕ} (h : mid ≡ over (replicate n 0) old) where
+    cleared : (k : ℕ) → mid ≡ over (levelsTo net k 0) mid
+    cleared k =
+        over-stands (replicate n 0) old h
+        ∙ ap (λ (f : List ℕ). over f mid) (ap (λ (j : ℕ). replicate j 0) e ∙ sym (levels-none net k))
+
+    cleared-length : levelCount (netOf net) ≤ length old → length mid ≡ length old
+    cleared-length l = ap length h ∙ length-over (replicate n 0) old (omega (arith, length-replicate {A = ℕ} n 0))
+
+    through : (k g : ℕ) {new : List ℕ} → new ≡ over (levelsTo net k g) mid → new ≡ over (levelsTo net k g) old
+    through k g w =
+        w
+        ∙ ap (over (levelsTo net k g)) h
+        ∙ over-over (replicate n 0) (levelsTo net k g) old (omega (arith, length-replicate {A = ℕ} n 0, levels-length net k g))
+
+  module _ (ands muxes : List ℕ) {ands₁ muxes₁ : List ℕ} (a : ands₁ ≡ over (replicate n 0) ands) (m : muxes₁ ≡ over (replicate n 0) muxes) where
+    pub levels-stand : {i g : ℕ} {ds : List ℕ} → Counts net i g ds ands muxes
+        → Counts net i g ds ands₁ muxes₁ × (ands₁ ≡ over (levelsTo net andKind 0) ands₁) × (muxes₁ ≡ over (levelsTo net muxKind 0) muxes₁)
+    levels-stand s = (
+      record {
+        lent = s .lent;
+        stand = s .stand;
+        andRoom = omega (arith, cleared-length ands a (s .andRoom), s .andRoom);
+        muxRoom = omega (arith, cleared-length muxes m (s .muxRoom), s .muxRoom);
+      },
+      cleared ands a andKind,
+      cleared muxes m muxKind,
+    )
+
+    pub levels-counted : {k : ℕ} {ands′ muxes′ : List ℕ} → CountedAs net ands₁ muxes₁ k ands′ muxes′ → CountedAs net ands muxes k ands′ muxes′
+    levels-counted r =
+        record {
+          all = r .all;
+          andsTold = through ands a andKind (gatesOf net) (r .andsTold);
+          muxesTold = through muxes m muxKind (gatesOf net) (r .muxesTold);
+        }

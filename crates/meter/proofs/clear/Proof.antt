@@ -1,6 +1,6 @@
 use native.Mathlib.Omega.{arith}
 use Prim.Native.Nat.{_≤_, _-_}
-use mathlib.Core.Path.{_≡_, refl}
+use mathlib.Core.Path.{_≡_}
 use native.Mathlib.Nat.{le-antisymm}
 use lib.ListN.{length, replicate}
 use Rattle.answer.specs.Fronts.{over}
@@ -8,8 +8,6 @@ use Rattle.meter.proofs.Depths.{zeros-none, zeros-more}
 use borrow.Author.Needs.{needs}
 use Rattle.meter.proofs.clear.Statement.{statement}
 use Rattle.meter.proofs.clear.Tie as tie
-use Rattle.meter.proofs.clear.Reads as reads
-use Rattle.meter.proofs.clear.Lts as lts
 
 abbrev Inv-loop : tie.InvT-loop
 Inv-loop list₀ count i₀ list i = (i ≤ count) × (length list ≡ length list₀) × (list ≡ over (replicate i 0) list₀)
@@ -17,37 +15,29 @@ Inv-loop list₀ count i₀ list i = (i ≤ count) × (length list ≡ length li
 abbrev μ-loop : tie.MeasureT-loop
 μ-loop list₀ count i₀ list i = count - i
 
--- src/lib.rt:76:5
 loop-holds : tie.Need-loop-holds Inv-loop μ-loop
 loop-holds c = (search needs, search needs, zeros-none _)
 
--- src/lib.rt:77:9
 mul-list : tie.Need-mul-list Inv-loop μ-loop
 mul-list c = search needs
 
--- src/lib.rt:77:9
 slice-write-list : tie.Need-slice-write-list Inv-loop μ-loop
 slice-write-list c = search needs
 
--- src/lib.rt:78:9
 add-i : tie.Need-add-i Inv-loop μ-loop
 add-i c = search needs
 
--- src/lib.rt:76:5
 loop-less : tie.Need-loop-less Inv-loop μ-loop
 loop-less c = search needs
 
--- src/lib.rt:76:5
 loop-again : tie.Need-loop-again Inv-loop μ-loop
 loop-again c =
     let v = c .before .loop .inv in
     (search needs, search needs, zeros-more _ _ (v .2) (omega arith))
 
--- src/lib.rt:71:1
 same-length : tie.Need-same-length Inv-loop μ-loop
 same-length c = c .before .loop .inv .1
 
--- src/lib.rt:71:1
 returns : tie.Need-returns Inv-loop μ-loop
 returns c = rw (le-antisymm (c .loop-test .left) (c .before .loop .inv .0)) (c .before .loop .inv .2)
 

@@ -1,6 +1,6 @@
 use Rattle.netlist.specs.Check.{gateLimit}
 use Prim.Native.Nat.{ℕ, _+_, _≤_, max}
-use mathlib.Core.Path.{_≡_, refl, subst}
+use mathlib.Core.Path.{_≡_, subst}
 use mathlib.Core.List.{List}
 use native.Mathlib.Omega.{arith}
 use lib.ListN.{getD}
@@ -12,10 +12,6 @@ use Rattle.meter.specs.Passes.{Operands}
 use borrow.Author.Needs.{needs}
 use Rattle.meter.proofs.gate_depth.Statement.{statement}
 use Rattle.meter.proofs.gate_depth.Tie as tie
-use Rattle.meter.proofs.gate_depth.Reads as reads
-use Rattle.meter.proofs.gate_depth.Lts as lts
-use Rattle.meter.proofs.larger.Reads as larger-reads
-use Rattle.meter.proofs.larger_of.Reads as larger-of-reads
 
 -- what each kind of gate makes of the depths of its operands
 module _ (ds : List ℕ) {g : Gate} where
@@ -34,107 +30,84 @@ module _ (ds : List ℕ) {g : Gate} where
 mux-small : (ds : List ℕ) (a b c : ℕ) {q r : ℕ} → Operands ds (Mux a b c) → q ≡ max (getD ds b 0) (getD ds c 0) + 0 → r ≡ max (getD ds a 0) q → r ≤ gateLimit
 mux-small ds a b c u h k = omega (arith, u .0, u .1, u .2)
 
--- src/lib.rt:55:23
 enum-told : tie.Need-enum-told
 enum-told c = search needs
 
--- src/lib.rt:56:22
 enum-told-2 : tie.Need-enum-told-2
 enum-told-2 c = search needs
 
--- src/lib.rt:57:19
 enum-known-gate : tie.Need-enum-known-gate
 enum-known-gate c = search needs
 
--- src/lib.rt:58:21
 cast-i : tie.Need-cast-i
 cast-i c = search needs
 
--- src/lib.rt:59:13
 mul-result : tie.Need-mul-result
 mul-result c = search needs
 
--- src/lib.rt:59:13
 shared-slice-read-result : tie.Need-shared-slice-read-result
 shared-slice-read-result c =
     let u = subst (Operands (now (c .before .before .before .before .before .args .depths))) (c .before .before .gate .given .1) (c .before .before .before .before .before .pre) in
     u .0
 
--- src/lib.rt:61:19
 enum-known-gate-2 : tie.Need-enum-known-gate-2
 enum-known-gate-2 c = search needs
 
--- src/lib.rt:61:28
 larger-of-requires : tie.Need-larger-of-requires
 larger-of-requires c κs =
     let u = subst (Operands (now (c .before .before .before .before .args .depths))) (c .before .gate2 .given .1) (c .before .before .before .before .pre) in
     (u .0, u .1, omega arith)
 
--- src/lib.rt:62:19
 enum-known-gate-3 : tie.Need-enum-known-gate-3
 enum-known-gate-3 c = search needs
 
--- src/lib.rt:62:28
 larger-of-requires-2 : tie.Need-larger-of-requires-2
 larger-of-requires-2 c κs =
     let u = subst (Operands (now (c .before .before .before .before .args .depths))) (c .before .gate3 .given .1) (c .before .before .before .before .pre) in
     (u .0, u .1, omega arith)
 
--- src/lib.rt:63:19
 enum-known-gate-4 : tie.Need-enum-known-gate-4
 enum-known-gate-4 c = search needs
 
--- src/lib.rt:64:21
 cast-i-2 : tie.Need-cast-i-2
 cast-i-2 c = search needs
 
--- src/lib.rt:65:20
 mul-larger : tie.Need-mul-larger
 mul-larger c = search needs
 
--- src/lib.rt:65:20
 shared-slice-read-larger : tie.Need-shared-slice-read-larger
 shared-slice-read-larger c =
     let u = subst (Operands (now (c .before .before .before .before .before .args .depths))) (c .before .before .gate4 .given .1) (c .before .before .before .before .before .pre) in
     u .0 .0
 
--- src/lib.rt:65:31
 larger-of-requires-3 : tie.Need-larger-of-requires-3
 larger-of-requires-3 c κs =
     let u = subst (Operands (now (c .before .before .before .before .before .args .depths))) (c .before .before .gate4 .given .1) (c .before .before .before .before .before .pre) in
     (u .1, u .2, omega arith)
 
--- src/lib.rt:65:13
 larger-requires : tie.Need-larger-requires
 larger-requires c κs = search needs
 
--- src/lib.rt:65:13
 add-result : tie.Need-add-result
 add-result c =
     let u = subst (Operands (now (c .before .before .before .before .before .before .before .args .depths))) (c .before .before .before .before .gate4 .given .1) (c .before .before .before .before .before .before .before .pre) in
     omega (arith, mux-small (now (c .before .before .before .before .before .before .before .args .depths)) _ _ _ u (c .before .larger-of3 .ensures) (c .larger .ensures))
 
--- src/lib.rt:50:1
 returns : tie.Need-returns
 returns c = search needs
 
--- src/lib.rt:50:1
 returns-2 : tie.Need-returns-2
 returns-2 c = search needs
 
--- src/lib.rt:50:1
 returns-3 : tie.Need-returns-3
 returns-3 c = not-is (now (c .before .before .before .before .before .args .depths)) (c .before .before .gate .given .1)
 
--- src/lib.rt:50:1
 returns-4 : tie.Need-returns-4
 returns-4 c = xor-is (now (c .before .before .before .before .before .args .depths)) (c .before .before .gate2 .given .1) (c .larger-of .ensures)
 
--- src/lib.rt:50:1
 returns-5 : tie.Need-returns-5
 returns-5 c = and-is (now (c .before .before .before .before .before .args .depths)) (c .before .before .gate3 .given .1) (c .larger-of2 .ensures)
 
--- src/lib.rt:50:1
 returns-6 : tie.Need-returns-6
 returns-6 c = mux-is (now (c .before .before .before .before .before .before .before .args .depths)) (c .before .before .before .before .gate4 .given .1) (c .before .larger-of3 .ensures) (c .larger .ensures)
 

@@ -9,58 +9,45 @@ use Rattle.meter.specs.Meter.{depthsAnswer}
 use borrow.Author.Needs.{needs}
 use Rattle.meter.proofs.judge.Statement.{statement}
 use Rattle.meter.proofs.judge.Tie as tie
-use Rattle.meter.proofs.judge.Reads as reads
-use Rattle.meter.proofs.judge.Lts as lts
-use Rattle.netlist.proofs.check.check_as.Reads as check-as-reads
 
 -- the check said Done
 sound : (c : tie.After-enum-told) → Sound (now (c .before .before .before .before .args .net))
 sound c = done-sound 1 _ (sym (c .before .before .check-as .ensures) ∙ c .enum-told .given .1)
 
--- src/lib.rt:140:9
 check-as-requires : tie.Need-check-as-requires
 check-as-requires c κs = search needs
 
 enum-told : tie.Need-enum-told
 enum-told c = search needs
 
--- src/lib.rt:142:9
 enum-told-2 : tie.Need-enum-told-2
 enum-told-2 c = search needs
 
--- src/lib.rt:142:9
 returns : tie.Need-returns
 unfolding depthsAnswer
 returns c = stop _ (c .before .before .check-as .ensures) (c .enum-told2 .given .1)
 
--- src/lib.rt:144:13
 shared-slice-read-i : tie.Need-shared-slice-read-i
 shared-slice-read-i c = omega (arith, sound (c .before) .size)
 
--- src/lib.rt:144:13
 cast-i : tie.Need-cast-i
 cast-i c = omega (arith, sound (c .before) .limits)
 
--- src/lib.rt:145:13
 shared-slice-read-g : tie.Need-shared-slice-read-g
 shared-slice-read-g c = omega (arith, sound (c .before .before) .size)
 
--- src/lib.rt:145:13
 cast-g : tie.Need-cast-g
 cast-g c = omega (arith, sound (c .before .before) .limits)
 
--- src/lib.rt:146:15
 add-if1 : tie.Need-add-if1
 add-if1 c = omega (arith, sound (c .before .before) .limits)
 
--- src/lib.rt:147:9
 returns-2 : tie.Need-returns-2
 unfolding depthsAnswer
 returns-2 c =
     let k = c .before .before .before in
     go (k .before .before .check-as .ensures) (k .enum-told .given .1) (refuse-yes _ _ _ (lt-ltb _ _ (c .if1 .taken)))
 
--- src/lib.rt:137:1
 returns-3 : tie.Need-returns-3
 unfolding depthsAnswer
 returns-3 c =

@@ -3,15 +3,12 @@ use native.Mathlib.Omega.{arith}
 use Prim.Native.Nat.{_≤_, _-_}
 use mathlib.Core.Path.{_≡_, refl}
 use native.Mathlib.Nat.{le-antisymm}
-use lib.ListN.{length, take}
+use lib.ListN.{take}
 use Rattle.netlist.specs.Net.{maxOf}
 use Rattle.meter.proofs.Depths.{max-more}
 use borrow.Author.Needs.{needs}
 use Rattle.meter.proofs.largest.Statement.{statement}
 use Rattle.meter.proofs.largest.Tie as tie
-use Rattle.meter.proofs.largest.Reads as reads
-use Rattle.meter.proofs.largest.Lts as lts
-use Rattle.meter.proofs.larger.Reads as larger-reads
 
 abbrev Inv-loop : tie.InvT-loop
 Inv-loop depths count top₀ i₀ top i = (i ≤ count) × (top ≡ maxOf (take i depths))
@@ -19,37 +16,29 @@ Inv-loop depths count top₀ i₀ top i = (i ≤ count) × (top ≡ maxOf (take 
 abbrev μ-loop : tie.MeasureT-loop
 μ-loop depths count top₀ i₀ top i = count - i
 
--- src/lib.rt:114:5
 loop-holds : tie.Need-loop-holds Inv-loop μ-loop
 loop-holds c = (search needs, refl)
 
--- src/lib.rt:115:27
 mul-larger : tie.Need-mul-larger Inv-loop μ-loop
 mul-larger c = search needs
 
--- src/lib.rt:115:27
 shared-slice-read-larger : tie.Need-shared-slice-read-larger Inv-loop μ-loop
 shared-slice-read-larger c = search needs
 
--- src/lib.rt:115:9
 larger-requires : tie.Need-larger-requires Inv-loop μ-loop
 larger-requires c κs = search needs
 
--- src/lib.rt:116:9
 add-i : tie.Need-add-i Inv-loop μ-loop
 add-i c = search needs
 
--- src/lib.rt:114:5
 loop-less : tie.Need-loop-less Inv-loop μ-loop
 loop-less c = search needs
 
--- src/lib.rt:114:5
 loop-again : tie.Need-loop-again Inv-loop μ-loop
 loop-again c =
     let l = c .before .before .before in
     (search needs, max-more (now (l .before .before .args .depths)) (l .loop .i) (omega arith) (l .loop .inv .1) (c .larger .ensures))
 
--- src/lib.rt:108:1
 returns : tie.Need-returns Inv-loop μ-loop
 returns c = rw (le-antisymm (c .loop-test .left) (c .before .loop .inv .0)) (c .before .loop .inv .1)
 

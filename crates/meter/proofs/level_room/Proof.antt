@@ -3,18 +3,13 @@ use borrow.Author.Tests.{lt-ltb, le-ltb}
 use Rattle.answer.proofs.Rows.{stop, pass, refuse-yes, refuse-not}
 use Rattle.meter.proofs.level_room.Statement.{statement}
 use Rattle.meter.proofs.level_room.Tie as tie
-use Rattle.meter.proofs.level_room.Reads as reads
-use Rattle.meter.proofs.level_room.Lts as lts
 
--- src/lib.rt:186:9
 returns : tie.Need-returns
 returns c = stop _ (refuse-yes _ _ _ (lt-ltb _ _ (c .if1 .taken))) refl
 
--- src/lib.rt:193:9
 returns-2 : tie.Need-returns-2
 returns-2 c = pass (refuse-not _ _ _ (le-ltb _ _ (c .before .if1 .left))) (refuse-yes _ _ _ (lt-ltb _ _ (c .if2 .taken)))
 
--- src/lib.rt:182:1
 returns-3 : tie.Need-returns-3
 returns-3 c = pass (refuse-not _ _ _ (le-ltb _ _ (c .before .if1 .left))) (sym (refuse-not _ _ _ (le-ltb _ _ (c .if2 .left))))
 

@@ -1,91 +1,79 @@
+use native.Mathlib.Omega.{arith}
+use denote.Ref.{now}
+use Rattle.netlist.specs.Words.{inputsOf, gatesOf}
+use Rattle.meter.specs.Passes.{Lent}
+use Rattle.meter.proofs.Judged.{judged-lent, unmeasured, long, outs-stand, measured}
 use borrow.Author.Needs.{needs}
 use Rattle.meter.proofs.measure.Statement.{statement}
 use Rattle.meter.proofs.measure.Tie as tie
-use Rattle.meter.proofs.measure.Reads as reads
-use Rattle.meter.proofs.measure.Lts as lts
-use Rattle.meter.proofs.judge.Reads as judge-reads
-use Rattle.meter.proofs.largest.Reads as largest-reads
-use Rattle.meter.proofs.largest_output.Reads as largest-output-reads
-use Rattle.meter.proofs.put_depths.Reads as put-depths-reads
 
--- src/lib.rt:160:9
+-- the judge said Done
+lent : (c : tie.After-enum-told) → Lent (now (c .before .before .before .before .before .args .net)) (inputsOf (now (c .before .before .before .before .before .args .net))) (gatesOf (now (c .before .before .before .before .before .args .net))) (now (c .before .before .before .before .before .args .depths))
+lent c = judged-lent (c .before .before .judge .ensures) (c .enum-told .given .1)
+
 judge-requires : tie.Need-judge-requires
 judge-requires c κs = search needs
 
 enum-told : tie.Need-enum-told
 enum-told c = search needs
 
--- src/lib.rt:162:9
 enum-told-2 : tie.Need-enum-told-2
 enum-told-2 c = search needs
 
--- src/lib.rt:162:9
 returns : tie.Need-returns
-returns c = ?
+returns c = unmeasured (c .before .before .judge .ensures) (c .enum-told2 .given .1)
 
--- src/lib.rt:168:13
 shared-slice-read-i : tie.Need-shared-slice-read-i
-shared-slice-read-i c = ?
+shared-slice-read-i c = omega (arith, lent (c .before) .sound .size)
 
--- src/lib.rt:168:13
 cast-i : tie.Need-cast-i
-cast-i c = ?
+cast-i c = omega (arith, lent (c .before) .sound .limits)
 
--- src/lib.rt:169:13
 shared-slice-read-g : tie.Need-shared-slice-read-g
-shared-slice-read-g c = ?
+shared-slice-read-g c = omega (arith, lent (c .before .before) .sound .size)
 
--- src/lib.rt:169:13
 cast-g : tie.Need-cast-g
-cast-g c = ?
+cast-g c = omega (arith, lent (c .before .before) .sound .limits)
 
--- src/lib.rt:170:13
 shared-slice-read-o : tie.Need-shared-slice-read-o
-shared-slice-read-o c = ?
+shared-slice-read-o c = omega (arith, lent (c .before .before .before) .sound .size)
 
--- src/lib.rt:170:13
 cast-o : tie.Need-cast-o
-cast-o c = ?
+cast-o c = omega (arith, lent (c .before .before .before) .sound .limits)
 
--- src/lib.rt:171:5
 put-depths-requires : tie.Need-put-depths-requires
-put-depths-requires c κs = ?
+put-depths-requires c κs = lent (c .before .before .before .before)
 
--- src/lib.rt:172:31
 add-largest : tie.Need-add-largest
-add-largest c = ?
+add-largest c = omega (arith, lent (c .before .before .before .before .before .before .before .before) .sound .limits)
 
--- src/lib.rt:172:9
 largest-requires : tie.Need-largest-requires
-largest-requires c κs = ?
+largest-requires c κs =
+    let s = lent (c .before .before .before .before .before .before .before .before) in
+    omega (arith, s .room, long s (c .before .before .before .put-depths .ensures))
 
--- src/lib.rt:173:48
 mul-largest-output : tie.Need-mul-largest-output
-mul-largest-output c = ?
+mul-largest-output c = omega (arith, lent (c .before .before .before .before .before .before .before .before .before .before) .sound .limits)
 
--- src/lib.rt:173:44
 add-largest-output : tie.Need-add-largest-output
-add-largest-output c = ?
+add-largest-output c = omega (arith, lent (c .before .before .before .before .before .before .before .before .before .before) .sound .limits)
 
--- src/lib.rt:173:9
 largest-output-requires : tie.Need-largest-output-requires
-largest-output-requires c κs = ?
+largest-output-requires c κs = outs-stand (lent (c .before .before .before .before .before .before .before .before .before .before)) (c .before .before .before .before .before .put-depths .ensures)
 
--- src/lib.rt:177:17
 cast-t9 : tie.Need-cast-t9
 cast-t9 c = search needs
 
--- src/lib.rt:177:17
 add-t21 : tie.Need-add-t21
 add-t21 c = search needs
 
--- src/lib.rt:157:1
 same-length : tie.Need-same-length
 same-length c = search needs
 
--- src/lib.rt:157:1
 returns-2 : tie.Need-returns-2
-returns-2 c = ?
+returns-2 c =
+    let k = c .before .before .before .before .before .before .before .before .before .before .before in
+    measured (lent k) (c .before .before .before .before .before .before .put-depths .ensures) (k .before .before .judge .ensures) (k .enum-told .given .1) (c .before .before .largest .ensures) (c .largest-output .ensures)
 
 pub measure-spec : {M : Type 1} → statement M
 measure-spec =

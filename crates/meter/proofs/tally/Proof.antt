@@ -10,9 +10,6 @@ use Rattle.meter.proofs.Levels.{level-of, level-ands, level-muxes, leve
 use borrow.Author.Needs.{needs}
 use Rattle.meter.proofs.tally.Statement.{statement}
 use Rattle.meter.proofs.tally.Tie as tie
-use Rattle.meter.proofs.tally.Reads as reads
-use Rattle.meter.proofs.tally.Lts as lts
-use Rattle.meter.proofs.one_if.Reads as one-if-reads
 
 abbrev Inv-loop : tie.InvT-loop
 Inv-loop net depths ands₀ muxes₀ inputs gates n₀ g₀ ands muxes n g = (g ≤ gates) × (length ands ≡ length ands₀) × (length muxes ≡ length muxes₀) × (ands ≡ over (levelsTo net andKind g) ands₀) × (muxes ≡ over (levelsTo net muxKind g) muxes₀) × (n ≡ kindCount net andKind g + kindCount net muxKind g)
@@ -20,133 +17,107 @@ Inv-loop net depths ands₀ muxes₀ inputs gates n₀ g₀ ands muxes n g = (g 
 abbrev μ-loop : tie.MeasureT-loop
 μ-loop net depths ands₀ muxes₀ inputs gates n₀ g₀ ands muxes n g = gates - g
 
--- src/lib.rt:222:5
 loop-holds : tie.Need-loop-holds Inv-loop μ-loop
 loop-holds c =
     let p = c .before .before .before .before .pre in
     (search needs, search needs, search needs, p .1, p .2, count-none _)
 
--- src/lib.rt:223:28
 mul-kind : tie.Need-mul-kind Inv-loop μ-loop
 mul-kind c = search needs
 
--- src/lib.rt:223:24
 add-kind : tie.Need-add-kind Inv-loop μ-loop
 add-kind c = search needs
 
--- src/lib.rt:223:20
 mul-kind-2 : tie.Need-mul-kind-2 Inv-loop μ-loop
 mul-kind-2 c = search needs
 
--- src/lib.rt:223:20
 shared-slice-read-kind : tie.Need-shared-slice-read-kind Inv-loop μ-loop
 shared-slice-read-kind c = search needs
 
--- src/lib.rt:224:28
 add-level : tie.Need-add-level Inv-loop μ-loop
 add-level c = search needs
 
--- src/lib.rt:224:21
 mul-level : tie.Need-mul-level Inv-loop μ-loop
 mul-level c = search needs
 
--- src/lib.rt:224:21
 shared-slice-read-level : tie.Need-shared-slice-read-level Inv-loop μ-loop
 shared-slice-read-level c = search needs
 
--- src/lib.rt:224:21
 cast-level : tie.Need-cast-level Inv-loop μ-loop
 cast-level c = omega (arith, c .shared-slice-known4 .given (c .before .before .before .before .before .before .before .before .args .inputs + c .before .before .before .loop .g))
 
--- src/lib.rt:225:13
 one-if-requires : tie.Need-one-if-requires Inv-loop μ-loop
 one-if-requires c κs = search needs
 
--- src/lib.rt:226:13
 one-if-requires-2 : tie.Need-one-if-requires-2 Inv-loop μ-loop
 one-if-requires-2 c κs = search needs
 
--- src/lib.rt:227:23
 mul-ands : tie.Need-mul-ands Inv-loop μ-loop
 mul-ands c = omega (arith, c .before .before .shared-slice-known4 .given (c .before .before .before .before .before .before .before .before .before .before .args .inputs + c .before .before .before .before .before .loop .g))
 
--- src/lib.rt:227:23
 slice-read-ands : tie.Need-slice-read-ands Inv-loop μ-loop
 slice-read-ands c =
     let l = c .before .before .before .before .before in
     let p = l .before .before .before .before .before .before .pre in
     omega (arith, level-ands (p .0) (l .before .loop .g) (l .loop-test .taken))
 
--- src/lib.rt:227:23
 add-ands : tie.Need-add-ands Inv-loop μ-loop
 add-ands c =
     let l = c .before .before .before .before .before in
     let p = l .before .before .before .before .before .before .pre in
     omega (arith, p .0 .lent .sound .limits, p .0 .lent .gates, level-fits _ _ _ _ (l .before .loop .inv .3) (level-of (p .0) (l .before .loop .g) (l .loop-test .taken)) (c .before .before .one-if .ensures))
 
--- src/lib.rt:227:9
 mul-ands-2 : tie.Need-mul-ands-2 Inv-loop μ-loop
 mul-ands-2 c = omega (arith, c .before .before .before .shared-slice-known4 .given (c .before .before .before .before .before .before .before .before .before .before .before .args .inputs + c .before .before .before .before .before .before .loop .g))
 
--- src/lib.rt:227:9
 slice-write-ands : tie.Need-slice-write-ands Inv-loop μ-loop
 slice-write-ands c =
     let l = c .before .before .before .before .before in
     let p = l .before .before .before .before .before .before .pre in
     omega (arith, level-ands (p .0) (l .before .loop .g) (l .loop-test .taken))
 
--- src/lib.rt:228:24
 mul-muxes : tie.Need-mul-muxes Inv-loop μ-loop
 mul-muxes c = omega (arith, c .before .before .before .shared-slice-known4 .given (c .before .before .before .before .before .before .before .before .before .before .before .args .inputs + c .before .before .before .before .before .before .loop .g))
 
--- src/lib.rt:228:24
 slice-read-muxes : tie.Need-slice-read-muxes Inv-loop μ-loop
 slice-read-muxes c =
     let l = c .before .before .before .before .before .before in
     let p = l .before .before .before .before .before .before .pre in
     omega (arith, level-muxes (p .0) (l .before .loop .g) (l .loop-test .taken))
 
--- src/lib.rt:228:24
 add-muxes : tie.Need-add-muxes Inv-loop μ-loop
 add-muxes c =
     let l = c .before .before .before .before .before .before in
     let p = l .before .before .before .before .before .before .pre in
     omega (arith, p .0 .lent .sound .limits, p .0 .lent .gates, level-fits _ _ _ _ (l .before .loop .inv .4) (level-of (p .0) (l .before .loop .g) (l .loop-test .taken)) (c .before .before .one-if2 .ensures))
 
--- src/lib.rt:228:9
 mul-muxes-2 : tie.Need-mul-muxes-2 Inv-loop μ-loop
 mul-muxes-2 c = omega (arith, c .before .before .before .before .shared-slice-known4 .given (c .before .before .before .before .before .before .before .before .before .before .before .before .args .inputs + c .before .before .before .before .before .before .before .loop .g))
 
--- src/lib.rt:228:9
 slice-write-muxes : tie.Need-slice-write-muxes Inv-loop μ-loop
 slice-write-muxes c =
     let l = c .before .before .before .before .before .before in
     let p = l .before .before .before .before .before .before .pre in
     omega (arith, level-muxes (p .0) (l .before .loop .g) (l .loop-test .taken))
 
--- src/lib.rt:229:13
 add-n : tie.Need-add-n Inv-loop μ-loop
 add-n c =
     let l = c .before .before .before .before .before .before in
     let p = l .before .before .before .before .before .before .pre in
     omega (arith, p .0 .lent .sound .limits, p .0 .lent .gates, count-fits _ _ (l .before .loop .inv .5) (c .before .before .before .one-if .ensures) (c .before .before .one-if2 .ensures))
 
--- src/lib.rt:229:13
 add-n-2 : tie.Need-add-n-2 Inv-loop μ-loop
 add-n-2 c =
     let l = c .before .before .before .before .before .before in
     let p = l .before .before .before .before .before .before .pre in
     omega (arith, p .0 .lent .sound .limits, p .0 .lent .gates, count-fits _ _ (l .before .loop .inv .5) (c .before .before .before .one-if .ensures) (c .before .before .one-if2 .ensures))
 
--- src/lib.rt:230:9
 add-g : tie.Need-add-g Inv-loop μ-loop
 add-g c = search needs
 
--- src/lib.rt:222:5
 loop-less : tie.Need-loop-less Inv-loop μ-loop
 loop-less c = search needs
 
--- src/lib.rt:222:5
 loop-again : tie.Need-loop-again Inv-loop μ-loop
 loop-again c =
     let l = c .before .before .before .before .before .before in
@@ -155,15 +126,12 @@ loop-again c =
     let d = level-of (p .0) (l .before .loop .g) (l .loop-test .taken) in
     (search needs, search needs, search needs, level-more _ _ _ _ (v .3) d (c .before .before .before .one-if .ensures), level-more _ _ _ _ (v .4) d (c .before .before .one-if2 .ensures), count-more _ _ (v .5) (c .before .before .before .one-if .ensures) (c .before .before .one-if2 .ensures))
 
--- src/lib.rt:209:1
 same-length : tie.Need-same-length Inv-loop μ-loop
 same-length c = c .before .loop .inv .1
 
--- src/lib.rt:209:1
 same-length-2 : tie.Need-same-length-2 Inv-loop μ-loop
 same-length-2 c = c .before .loop .inv .2
 
--- src/lib.rt:209:1
 returns : tie.Need-returns Inv-loop μ-loop
 returns c =
     let v = c .before .loop .inv in
