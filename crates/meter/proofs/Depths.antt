@@ -83,6 +83,9 @@ pub depths-whole : (net : List ℕ) → depthsTo net (gatesOf net) ≡ depths (n
 unfolding depthsTo
 depths-whole net = refl
 
+pub depths-count : (net : List ℕ) → length (depths (netOf net)) ≡ inputsOf net + gatesOf net
+depths-count net = ap length (sym (depths-whole net)) ∙ depths-length net (gatesOf net)
+
 step-over : (front old : List ℕ) (g : Gate) → Uses (length front) g → step depAlg (over front old) g ≡ step depAlg front g
 unfolding over
 step-over front old g u = step-front depAlg front _ g u
@@ -164,8 +167,7 @@ gate-level n g =
 -- For the passes over the depths, once they stand.
 pub top-level : (net old : List ℕ) → maxOf (take (inputsOf net + gatesOf net) (over (depths (netOf net)) old)) + 1 ≡ levelCount (netOf net)
 top-level net old =
-    let l : length (depths (netOf net)) ≡ inputsOf net + gatesOf net = ap length (sym (depths-whole net)) ∙ depths-length net (gatesOf net) in
-    let t : take (inputsOf net + gatesOf net) (over (depths (netOf net)) old) ≡ depths (netOf net) = rw l at (take-over (depths (netOf net)) old) in
+    let t : take (inputsOf net + gatesOf net) (over (depths (netOf net)) old) ≡ depths (netOf net) = rw (depths-count net) at (take-over (depths (netOf net)) old) in
     rw t (omega (arith, max-gates (netOf net)))
 
 map-below : {X : Type 0} (p q : ℕ → X) (m : ℕ) (os : List ℕ) → Below m os → ((i : ℕ) → i < m → p i ≡ q i) → map p os ≡ map q os
@@ -174,10 +176,9 @@ map-below p q m (o ∷ os) b h = ap₂ _∷_ (h o (b .0)) (map-below p q m os (b
 
 pub outs-depth : (net old : List ℕ) → Sound net → maxOf (map (at depAlg (over (depths (netOf net)) old)) (netOf net .outs)) ≡ depth (netOf net)
 outs-depth net old s =
-    let l : length (depths (netOf net)) ≡ inputsOf net + gatesOf net = ap length (sym (depths-whole net)) ∙ depths-length net (gatesOf net) in
     ap maxOf
     (map-below _ _ (wiresOf (netOf net)) (netOf net .outs) (sound-valid net s .outs)
-    (λ i h. over-at (depths (netOf net)) old i (omega (arith, l, gates-length net 3 (gatesOf net)))))
+    (λ i h. over-at (depths (netOf net)) old i (omega (arith, depths-count net, gates-length net 3 (gatesOf net)))))
 
 -- For the two passes that fill the depths: the first leaves what the second asks, and both together fill.
 module _ {net : List ℕ} {i g : ℕ} {ds mid : List ℕ} (s : Lent net i g ds) (e : mid ≡ over (replicate i 0) ds) where

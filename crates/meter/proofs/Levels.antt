@@ -19,8 +19,8 @@ use Rattle.netlist.specs.Words.{inputsOf, gatesOf, gatePlace, gateAt, gatesAt, 
 use Rattle.netlist.proofs.Sim.{length-snoc, split, split-suc}
 use Rattle.netlist.proofs.Words.{gates-snoc}
 use Rattle.meter.specs.Levels.{one, andKind, muxKind, kindCount, hits, hitsBelow, levelCount, levels, total}
-use Rattle.meter.specs.Passes.{levelsTo, Counts, CountedAs}
-use Rattle.meter.proofs.Depths.{over-stands, depths-whole, depths-length, gate-level}
+use Rattle.meter.specs.Counted.{levelsTo, Counts, CountedAs}
+use Rattle.meter.proofs.Depths.{over-stands, depths-count, gate-level}
 
 -- gate g is of kind code k; the depth that ds has of it
 abbrev pub kindIs : List ℕ → ℕ → ℕ → Bool
@@ -65,22 +65,22 @@ one-more true d n =
     (λ q. rw (lt-ltb d (suc n) (omega arith), le-ltb d n h, eq-eqb d n (omega arith))))
 
 module _ (net : List ℕ) (k : ℕ) where
-  pub kinds-le : (g : ℕ) → kindCount net k g ≤ g
+  kinds-le : (g : ℕ) → kindCount net k g ≤ g
   unfolding kindCount
   kinds-le zero = omega arith
   kinds-le (suc g) = omega (arith, kinds-le g, one-le (kindIs net k g))
 
-  pub kinds-none : kindCount net k 0 ≡ 0
+  kinds-none : kindCount net k 0 ≡ 0
   unfolding kindCount
   kinds-none = refl
 
-  pub kinds-more : (g : ℕ) → kindCount net k (g + 1) ≡ kindCount net k g + one (kindIs net k g)
+  kinds-more : (g : ℕ) → kindCount net k (g + 1) ≡ kindCount net k g + one (kindIs net k g)
   unfolding kindCount
   kinds-more g = rw (add-one g)
 
 module _ (net ds : List ℕ) (k : ℕ) where
   -- no count is above the number of gates
-  pub hits-le : (l g : ℕ) → hits net ds k l g ≤ g
+  hits-le : (l g : ℕ) → hits net ds k l g ≤ g
   unfolding hits
   hits-le l zero = omega arith
   hits-le l (suc g) = omega (arith, hits-le l g, one-le (kindIs net k g && eqb (depthOf net ds g) l))
@@ -142,7 +142,7 @@ module _ (net ds : List ℕ) (k : ℕ) where
   total-more g (suc n) =
       omega (arith, total-more g n, total-snoc (hitsBelow net ds k (suc g) n) (hits net ds k n (suc g)), total-snoc (hitsBelow net ds k g n) (hits net ds k n g), one-more (kindIs net k g) (depthOf net ds g) n)
 
-  pub total-kinds : (g n : ℕ) → ((j : ℕ) → j < g → depthOf net ds j < n) → total (hitsBelow net ds k g n) ≡ kindCount net k g
+  total-kinds : (g n : ℕ) → ((j : ℕ) → j < g → depthOf net ds j < n) → total (hitsBelow net ds k g n) ≡ kindCount net k g
   unfolding kindCount
   total-kinds zero n h = rw (below-none n) (total-zeros n)
   total-kinds (suc g) n h =
@@ -183,11 +183,11 @@ kinds-mults net = kinds-muls net (gatesOf net)
 
 -- For the pass over the gates, of either kind.
 module _ (net : List ℕ) (k : ℕ) where
-  pub levels-length : (g : ℕ) → length (levelsTo net k g) ≡ levelCount (netOf net)
+  levels-length : (g : ℕ) → length (levelsTo net k g) ≡ levelCount (netOf net)
   unfolding levelsTo
   levels-length g = below-length net (depths (netOf net)) k g (levelCount (netOf net))
 
-  pub levels-none : levelsTo net k 0 ≡ replicate (levelCount (netOf net)) 0
+  levels-none : levelsTo net k 0 ≡ replicate (levelCount (netOf net)) 0
   unfolding levelsTo
   levels-none = below-none net (depths (netOf net)) k (levelCount (netOf net))
 
@@ -205,7 +205,7 @@ module _ (net : List ℕ) (k : ℕ) where
         (over-at (hitsBelow net D k g n) old (getD D (inputsOf net + g) 0) (omega (arith, below-length net D k g n, gate-level (netOf net) g))
         ∙ below-at net D k g n (getD D (inputsOf net + g) 0) (gate-level (netOf net) g))
 
-    pub level-le : getD v l 0 ≤ g
+    level-le : getD v l 0 ≤ g
     level-le = omega (arith, level-is, hits-le net (depths (netOf net)) k (getD (depths (netOf net)) (inputsOf net + g) 0) g)
 
     pub level-more : {a : ℕ} → a ≡ one (kindIs net k g) → set v l (getD v l 0 + a) ≡ over (levelsTo net k (g + 1)) old
@@ -229,9 +229,8 @@ module _ {net : List ℕ} {i n : ℕ} {ds ands muxes : List ℕ} (s : Counts net
   pub level-of : getD ds (i + g) 0 ≡ getD (depths (netOf net)) (inputsOf net + g) 0
   level-of =
       let D = depths (netOf net) in
-      let long : length D ≡ inputsOf net + gatesOf net = ap length (sym (depths-whole net)) ∙ depths-length net (gatesOf net) in
       ap (λ (l : List ℕ). getD l (i + g) 0) (s .stand)
-      ∙ over-at D ds (i + g) (omega (arith, s .lent .inputs, s .lent .gates))
+      ∙ over-at D ds (i + g) (omega (arith, depths-count net, s .lent .inputs, s .lent .gates))
       ∙ ap (λ (j : ℕ). getD D (j + g) 0) (s .lent .inputs)
 
   pub level-ands : getD ds (i + g) 0 < length ands

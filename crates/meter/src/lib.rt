@@ -6,7 +6,7 @@ use netlist::gate::Gate;
 ghost use mathlib.Core.Path.{_≡_};
 ghost use mathlib.Core.List.{map};
 ghost use Prim.Native.Nat.{ℕ, _+_, _≤_, _<_, max};
-ghost use lib.ListN.{length, getD, take, drop, set, replicate};
+ghost use lib.ListN.{length, getD, take, drop, replicate};
 ghost use lib.Dec.{ltb, eqb};
 ghost use Rattle.answer.specs.Answers.{_▹_, refuse};
 ghost use Rattle.answer.specs.Fronts.{over};
@@ -14,7 +14,8 @@ ghost use Rattle.netlist.specs.Net.{at, step, depAlg, maxOf};
 ghost use Rattle.netlist.specs.Words.{inputsOf, gatesOf, netOf};
 ghost use Rattle.meter.specs.Levels.{one, andKind, muxKind, levelCount};
 ghost use Rattle.meter.specs.Meter.{depthsAnswer, MeteredAs};
-ghost use Rattle.meter.specs.Passes.{Shallow, Operands, depthsTo, levelsTo, Lent, MeasuredAs, Counts, CountedAs};
+ghost use Rattle.meter.specs.Passes.{Shallow, Operands, depthsTo, Lent, MeasuredAs};
+ghost use Rattle.meter.specs.Counted.{levelsTo, Counts, CountedAs};
 
 // The answer, with the netlist's depth and its multiplications, both 0 on a refusal.
 pub struct Metered {
@@ -232,7 +233,7 @@ fn tally(
     n
 }
 
-// The level records.
+// The level records, cleared and counted, and how many gates they count.
 fn put_levels(
     net: &[u32],
     depths: &[u32],

@@ -1,4 +1,3 @@
-use Rattle.netlist.specs.Check.{gateLimit}
 use Prim.Native.Nat.{ℕ, _+_, _≤_, max}
 use mathlib.Core.Path.{_≡_, subst}
 use mathlib.Core.List.{List}
@@ -8,6 +7,7 @@ use denote.Ref.{now}
 use Rattle.netlist.specs.declared.gate.Gate.{Gate}
 use Rattle.netlist.specs.declared.gate.Gate.the-variants.{Not, Xor, And, Mux}
 use Rattle.netlist.specs.Net.{step, depAlg}
+use Rattle.netlist.specs.Check.{gateLimit}
 use Rattle.meter.specs.Passes.{Operands}
 use borrow.Author.Needs.{needs}
 use Rattle.meter.proofs.gate_depth.Statement.{statement}

@@ -1,4 +1,4 @@
-use Rattle.meter.proofs.Judged.{unmetered, roomless, roomy, metered}
+use Rattle.meter.proofs.Promise.{unmetered, roomless, roomy, metered}
 use borrow.Author.Needs.{needs}
 use Rattle.meter.proofs.meter.Statement.{statement}
 use Rattle.meter.proofs.meter.Tie as tie
@@ -31,10 +31,15 @@ same-length-2 : tie.Need-same-length-2
 same-length-2 c = search needs
 
 returns-2 : tie.Need-returns-2
-returns-2 c = roomless (c .before .before .before .before .before .before .before .measure .ensures) _ _ (c .before .before .before .enum-told .given .1) (c .before .before .level-room .ensures) (c .enum-told4 .given .1)
+returns-2 c =
+    let d = c .before .before .before in
+    roomless (d .before .before .before .before .measure .ensures) _ _ (d .enum-told .given .1) (c .before .before .level-room .ensures) (c .enum-told4 .given .1)
 
 put-levels-requires : tie.Need-put-levels-requires
-put-levels-requires c κs = roomy (c .before .before .before .before .before .before .before .before .before .before .measure .ensures) _ _ (c .before .before .before .before .before .before .enum-told .given .1) (c .before .before .before .before .before .level-room .ensures) (c .before .before .before .enum-told3 .given .1)
+put-levels-requires c κs =
+    let r = c .before .before .before in
+    let d = r .before .before .before in
+    roomy (d .before .before .before .before .measure .ensures) _ _ (d .enum-told .given .1) (r .before .before .level-room .ensures) (r .enum-told3 .given .1)
 
 same-length-3 : tie.Need-same-length-3
 same-length-3 c = search needs
@@ -46,7 +51,11 @@ same-length-5 : tie.Need-same-length-5
 same-length-5 c = search needs
 
 returns-3 : tie.Need-returns-3
-returns-3 c = metered (c .before .before .before .before .before .before .before .before .before .before .before .before .before .before .before .measure .ensures) _ _ (c .before .before .before .before .before .before .before .before .before .before .before .enum-told .given .1) (c .before .before .before .before .before .before .before .before .before .before .level-room .ensures) (c .before .before .before .before .before .before .before .before .enum-told3 .given .1) (c .before .before .before .before .put-levels .ensures)
+returns-3 c =
+    let n = c .before .before .before .before in
+    let r = n .before .before .before .before in
+    let d = r .before .before .before in
+    metered (d .before .before .before .before .measure .ensures) _ _ (d .enum-told .given .1) (r .before .before .level-room .ensures) (r .enum-told3 .given .1) (n .put-levels .ensures)
 
 pub meter-spec : {M : Type 1} → statement M
 meter-spec =

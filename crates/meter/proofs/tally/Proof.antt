@@ -5,7 +5,7 @@ use native.Mathlib.Nat.{le-antisymm}
 use lib.ListN.{length}
 use Rattle.answer.specs.Fronts.{over}
 use Rattle.meter.specs.Levels.{andKind, muxKind, kindCount}
-use Rattle.meter.specs.Passes.{levelsTo}
+use Rattle.meter.specs.Counted.{levelsTo}
 use Rattle.meter.proofs.Levels.{level-of, level-ands, level-muxes, level-fits, level-more, count-none, count-fits, count-more, counted}
 use borrow.Author.Needs.{needs}
 use Rattle.meter.proofs.tally.Statement.{statement}
