@@ -41,3 +41,8 @@ levelCount n = suc (maxOf (drop (n .inputs) (depths n)))
 -- one half of the level records: the counts of the gates of kind code k
 unfoldable pub levels : List ℕ → ℕ → List ℕ
 levels net k = hitsBelow net (depths (netOf net)) k (gatesOf net) (levelCount (netOf net))
+
+-- the sum of a list
+unfoldable pub total : List ℕ → ℕ
+total [] = 0
+total (x ∷ xs) = x + total xs

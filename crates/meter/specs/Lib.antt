@@ -1,2 +1,4 @@
 pub mod Levels
 pub mod Meter
+pub mod Passes
+pub mod Counted

@@ -4,9 +4,18 @@
 use answer::Answer;
 use netlist::gate::Gate;
 ghost use mathlib.Core.Path.{_≡_};
-ghost use Prim.Native.Nat.{_+_, _≤_, _<_, max};
-ghost use lib.ListN.{length};
-ghost use Rattle.meter.specs.Meter.{MeteredAs};
+ghost use mathlib.Core.List.{map};
+ghost use Prim.Native.Nat.{ℕ, _+_, _≤_, _<_, max};
+ghost use lib.ListN.{length, getD, take, drop, replicate};
+ghost use lib.Dec.{ltb, eqb};
+ghost use Rattle.answer.specs.Answers.{_▹_, refuse};
+ghost use Rattle.answer.specs.Fronts.{over};
+ghost use Rattle.netlist.specs.Net.{at, step, depAlg, maxOf};
+ghost use Rattle.netlist.specs.Words.{inputsOf, gatesOf, netOf};
+ghost use Rattle.meter.specs.Levels.{one, andKind, muxKind, levelCount};
+ghost use Rattle.meter.specs.Meter.{depthsAnswer, MeteredAs};
+ghost use Rattle.meter.specs.Passes.{Shallow, Operands, depthsTo, Lent, MeasuredAs};
+ghost use Rattle.meter.specs.Counted.{levelsTo, Counts, CountedAs};
 
 // The answer, with the netlist's depth and its multiplications, both 0 on a refusal.
 pub struct Metered {
@@ -15,9 +24,8 @@ pub struct Metered {
     pub multiplications: u32,
 }
 
-// What is left to do once the depths are filled: the answer so far, the netlist's depth, and how many
-// levels there are.
-struct Plan {
+// What the depths tell: the answer up to them, the netlist's depth, and how many levels there are.
+struct Measured {
     answer: Answer,
     depth: u32,
     levels: usize,
@@ -29,8 +37,21 @@ fn larger(a: u32, b: u32) -> u32
     if a < b { b } else { a }
 }
 
+// The larger depth of two wires, and so many more.
+fn larger_of(depths: &[u32], a: u32, b: u32, more: u32) -> u32
+    requires { ⌜ (Shallow (now depths) a) × (Shallow (now depths) b) × (more ≤ 1) ⌝ }
+    ensures { λ r. ⌜ r ≡ max (getD (now (depths .entry)) a 0) (getD (now (depths .entry)) b 0) + more ⌝ }
+{
+    let i = a as usize;
+    let j = b as usize;
+    larger(depths[i], depths[j]) + more
+}
+
 // The depth of a gate over the wires before it.
-fn gate_depth(gate: Gate, depths: &[u32]) -> u32 {
+fn gate_depth(gate: Gate, depths: &[u32]) -> u32
+    requires { ⌜ Operands (now depths) gate ⌝ }
+    ensures { λ r. ⌜ r ≡ step depAlg (now (depths .entry)) gate ⌝ }
+{
     match gate {
         Gate::Zero => 0,
         Gate::One => 0,
@@ -38,27 +59,20 @@ fn gate_depth(gate: Gate, depths: &[u32]) -> u32 {
             let i = a as usize;
             depths[i]
         }
-        Gate::Xor(a, b) => {
-            let i = a as usize;
-            let j = b as usize;
-            larger(depths[i], depths[j])
-        }
-        Gate::And(a, b) => {
-            let i = a as usize;
-            let j = b as usize;
-            larger(depths[i], depths[j]) + 1
-        }
+        Gate::Xor(a, b) => larger_of(depths, a, b, 0),
+        Gate::And(a, b) => larger_of(depths, a, b, 1),
         Gate::Mux(a, b, c) => {
             let i = a as usize;
-            let j = b as usize;
-            let k = c as usize;
-            larger(depths[i], larger(depths[j], depths[k])) + 1
+            larger(depths[i], larger_of(depths, b, c, 0)) + 1
         }
     }
 }
 
 // The first count words 0.
-fn clear(list: &mut [u32], count: usize) {
+fn clear(list: &mut [u32], count: usize)
+    requires { ⌜ count ≤ length (now list) ⌝ }
+    ensures { λ _. ⌜ now (list .exit) ≡ over (replicate count 0) (now (list .entry)) ⌝ }
+{
     let mut i: usize = 0;
     while i < count {
         list[i] = 0;
@@ -67,7 +81,10 @@ fn clear(list: &mut [u32], count: usize) {
 }
 
 // The gates' depths, after those of the inputs, which stand.
-fn put_gates(net: &[u32], depths: &mut [u32], inputs: usize, gates: usize) {
+fn put_gates(net: &[u32], depths: &mut [u32], inputs: usize, gates: usize)
+    requires { ⌜ (Lent (now net) inputs gates (now depths)) × (now depths ≡ over (replicate inputs 0) (now depths)) ⌝ }
+    ensures { λ _. ⌜ now (depths .exit) ≡ over (depthsTo (now (net .entry)) gates) (now (depths .entry)) ⌝ }
+{
     let mut g: usize = 0;
     while g < gates {
         let at = 3 + 4 * g;
@@ -79,8 +96,20 @@ fn put_gates(net: &[u32], depths: &mut [u32], inputs: usize, gates: usize) {
     }
 }
 
+// The depths of all wires.
+fn put_depths(net: &[u32], depths: &mut [u32], inputs: usize, gates: usize)
+    requires { ⌜ Lent (now net) inputs gates (now depths) ⌝ }
+    ensures { λ _. ⌜ now (depths .exit) ≡ over (depthsTo (now (net .entry)) gates) (now (depths .entry)) ⌝ }
+{
+    clear(depths, inputs);
+    put_gates(net, depths, inputs, gates);
+}
+
 // The largest of count depths, 0 of none.
-fn largest(depths: &[u32], count: usize) -> u32 {
+fn largest(depths: &[u32], count: usize) -> u32
+    requires { ⌜ count ≤ length (now depths) ⌝ }
+    ensures { λ r. ⌜ r ≡ maxOf (take count (now (depths .entry))) ⌝ }
+{
     let mut top: u32 = 0;
     let mut i: usize = 0;
     while i < count {
@@ -91,7 +120,10 @@ fn largest(depths: &[u32], count: usize) -> u32 {
 }
 
 // The largest depth over the outputs, whose wires begin at word start.
-fn largest_output(net: &[u32], depths: &[u32], start: usize, count: usize) -> u32 {
+fn largest_output(net: &[u32], depths: &[u32], start: usize, count: usize) -> u32
+    requires { ⌜ (start + count ≡ length (now net)) × ((o : ℕ) → o < count → getD (now net) (start + o) 0 < length (now depths)) ⌝ }
+    ensures { λ r. ⌜ r ≡ maxOf (map (at depAlg (now (depths .entry))) (drop start (now (net .entry)))) ⌝ }
+{
     let mut top: u32 = 0;
     let mut o: usize = 0;
     while o < count {
@@ -102,11 +134,33 @@ fn largest_output(net: &[u32], depths: &[u32], start: usize, count: usize) -> u3
     top
 }
 
-// Judges all, and fills the depths where there is room for them.
-fn measure(net: &[u32], depths: &mut [u32], and_room: usize, mux_room: usize) -> Plan {
+// Rule 9, then 8 on the depth list, for which room words are lent.
+fn judge(net: &[u32], room: usize) -> Answer
+    ensures { λ r. ⌜ r ≡ depthsAnswer (now (net .entry)) room ⌝ }
+{
     let r = netlist::check::check_as(net, 1);
     let Answer::Done = r else {
-        return Plan {
+        return r;
+    };
+    let i = net[0] as usize;
+    let g = net[1] as usize;
+    if room < i + g {
+        return Answer::Refused {
+            number: answer::ROOM,
+            list: 2,
+            place: room,
+        };
+    }
+    Answer::Done
+}
+
+// Judges up to the depths, and fills them where that is done.
+fn measure(net: &[u32], depths: &mut [u32]) -> Measured
+    ensures { λ r. ⌜ MeasuredAs (now (net .entry)) (now (depths .entry)) r (now (depths .exit)) ⌝ }
+{
+    let r = judge(net, depths.len());
+    let Answer::Done = r else {
+        return Measured {
             answer: r,
             depth: 0,
             levels: 0,
@@ -115,31 +169,20 @@ fn measure(net: &[u32], depths: &mut [u32], and_room: usize, mux_room: usize) ->
     let i = net[0] as usize;
     let g = net[1] as usize;
     let o = net[2] as usize;
-    let len = depths.len();
-    if len < i + g {
-        return Plan {
-            answer: Answer::Refused {
-                number: answer::ROOM,
-                list: 2,
-                place: len,
-            },
-            depth: 0,
-            levels: 0,
-        };
-    }
-    clear(depths, i);
-    put_gates(net, depths, i, g);
-    let levels = largest(depths, i + g) as usize + 1;
-    let room = level_room(levels, and_room, mux_room);
-    Plan {
-        answer: room,
-        depth: largest_output(net, depths, 3 + 4 * g, o),
-        levels,
+    put_depths(net, depths, i, g);
+    let top = largest(depths, i + g);
+    let deep = largest_output(net, depths, 3 + 4 * g, o);
+    Measured {
+        answer: Answer::Done,
+        depth: deep,
+        levels: top as usize + 1,
     }
 }
 
 // 8 on the level list: the first of its two lists that is too short.
-fn level_room(levels: usize, and_room: usize, mux_room: usize) -> Answer {
+fn level_room(levels: usize, and_room: usize, mux_room: usize) -> Answer
+    ensures { λ r. ⌜ r ≡ refuse 8 3 «and_room» (ltb «and_room» levels) ▹ refuse 8 3 «mux_room» (ltb «mux_room» levels) ⌝ }
+{
     if and_room < levels {
         return Answer::Refused {
             number: answer::ROOM,
@@ -157,11 +200,13 @@ fn level_room(levels: usize, and_room: usize, mux_room: usize) -> Answer {
     Answer::Done
 }
 
-fn one_if(a: u32, b: u32) -> u32 {
+fn one_if(a: u32, b: u32) -> u32
+    ensures { λ r. ⌜ r ≡ one (eqb a b) ⌝ }
+{
     if a == b { 1 } else { 0 }
 }
 
-// Counts the AND and the MUX gates by depth, in one pass, and all of them.
+// Counts the AND and the MUX gates by depth, in one pass over levels that stand at 0, and all of them.
 fn tally(
     net: &[u32],
     depths: &[u32],
@@ -169,7 +214,10 @@ fn tally(
     muxes: &mut [u32],
     inputs: usize,
     gates: usize,
-) -> u32 {
+) -> u32
+    requires { ⌜ (Counts (now net) inputs gates (now depths) (now ands) (now muxes)) × (now ands ≡ over (levelsTo (now net) andKind 0) (now ands)) × (now muxes ≡ over (levelsTo (now net) muxKind 0) (now muxes)) ⌝ }
+    ensures { λ r. ⌜ CountedAs (now (net .entry)) (now (ands .entry)) (now (muxes .entry)) r (now (ands .exit)) (now (muxes .exit)) ⌝ }
+{
     let mut n: u32 = 0;
     let mut g: usize = 0;
     while g < gates {
@@ -185,12 +233,29 @@ fn tally(
     n
 }
 
+// The level records, cleared and counted, and how many gates they count.
+fn put_levels(
+    net: &[u32],
+    depths: &[u32],
+    ands: &mut [u32],
+    muxes: &mut [u32],
+    levels: usize,
+) -> u32
+    requires { ⌜ (Counts (now net) (inputsOf (now net)) (gatesOf (now net)) (now depths) (now ands) (now muxes)) × (levels ≡ levelCount (netOf (now net))) ⌝ }
+    ensures { λ r. ⌜ CountedAs (now (net .entry)) (now (ands .entry)) (now (muxes .entry)) r (now (ands .exit)) (now (muxes .exit)) ⌝ }
+{
+    clear(ands, levels);
+    clear(muxes, levels);
+    let i = net[0] as usize;
+    let g = net[1] as usize;
+    tally(net, depths, ands, muxes, i, g)
+}
+
 pub fn meter(net: &[u32], depths: &mut [u32], ands: &mut [u32], muxes: &mut [u32]) -> Metered
     ensures { λ r. ⌜ MeteredAs (now (net .entry)) (now (depths .entry)) (now (ands .entry)) (now (muxes .entry)) r (now (depths .exit)) (now (ands .exit)) (now (muxes .exit)) ⌝ }
 {
-    let p = measure(net, depths, ands.len(), muxes.len());
+    let p = measure(net, depths);
     let r = p.answer;
-    let levels = p.levels;
     let Answer::Done = r else {
         return Metered {
             answer: r,
@@ -198,11 +263,16 @@ pub fn meter(net: &[u32], depths: &mut [u32], ands: &mut [u32], muxes: &mut [u32
             multiplications: 0,
         };
     };
-    clear(ands, levels);
-    clear(muxes, levels);
-    let i = net[0] as usize;
-    let g = net[1] as usize;
-    let n = tally(net, depths, ands, muxes, i, g);
+    let levels = p.levels;
+    let room = level_room(levels, ands.len(), muxes.len());
+    let Answer::Done = room else {
+        return Metered {
+            answer: room,
+            depth: 0,
+            multiplications: 0,
+        };
+    };
+    let n = put_levels(net, depths, ands, muxes, levels);
     Metered {
         answer: Answer::Done,
         depth: p.depth,

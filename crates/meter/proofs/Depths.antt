@@ -1,0 +1,194 @@
+-- Laws of depths: their bounds, one more gate, and the largest of them.
+use Prim.Native.Nat.{ℕ, zero, suc, _+_, _<_, _≤_, max, zero-le}
+use mathlib.Core.Path.{_≡_, refl, sym, ap, ap₂, subst, _∙_}
+use mathlib.Core.List.{List, [], _∷_, _++_, map}
+use native.Mathlib.Omega.{arith}
+use native.Mathlib.Numerals.{add-one}
+use lib.ListN.{length, getD, set, take, drop, replicate, length-replicate, length-drop, take-append-drop}
+use lib.Seq.{take-suc, take-length, take-append-seam, take-take, take-all, getD-drop}
+use borrow.Author.Fill.{fill-more}
+use Rattle.answer.specs.Fronts.{over}
+use Rattle.answer.proofs.Over.{over-next, over-at, over-over, length-over, take-over}
+use Rattle.netlist.specs.declared.gate.Gate.{Gate}
+use Rattle.netlist.specs.declared.gate.Gate.the-variants.{Zero, One, Not, Xor, And, Mux}
+use Rattle.netlist.specs.Net.{Net, Alg, at, step, run, depAlg, maxOf, depths, depth, wiresOf, Uses, Below}
+use Rattle.netlist.specs.Words.{inputsOf, gatesOf, gatePlace, gateAt, gatesAt, netOf}
+use Rattle.netlist.specs.Sound.{Sound}
+use Rattle.netlist.proofs.Sim.{length-snoc, run-append, run-length, step-front, each-map}
+use Rattle.netlist.proofs.Glued.{map-append, at-le-max}
+use Rattle.netlist.proofs.Words.{gates-length, gates-snoc, sound-valid}
+use Rattle.meter.specs.Levels.{levelCount}
+use Rattle.meter.specs.Passes.{Operands, depthsTo, Lent}
+
+-- Lists of zeros.
+zeros-le : (n k : ℕ) → getD (replicate n 0) k 0 ≤ 0
+zeros-le zero k = zero-le
+zeros-le (suc n) zero = zero-le
+zeros-le (suc n) (suc k) = zeros-le n k
+
+pub zeros-none : (old : List ℕ) → old ≡ over (replicate 0 0) old
+unfolding over
+zeros-none old = refl
+
+pub zeros-more : (n : ℕ) (old : List ℕ) {new : List ℕ} → new ≡ over (replicate n 0) old → n < length old → set new n 0 ≡ over (replicate (n + 1) 0) old
+unfolding over
+zeros-more n old e l =
+    ap (λ (t : List ℕ). set t n 0) e
+    ∙ ap (λ (k : ℕ). set (replicate n 0 ++ drop k old) n 0) (length-replicate n 0)
+    ∙ fill-more n 0 old l
+    ∙ ap (λ (k : ℕ). replicate (n + 1) 0 ++ drop k old) (sym (length-replicate (n + 1) 0))
+
+-- a front written over a list stands in it
+pub over-stands : {new : List ℕ} (front old : List ℕ) → new ≡ over front old → new ≡ over front new
+over-stands front old e = rw e (sym (over-over front front old (omega arith)))
+
+-- The depths of the first gates: how many, one more, and none above the number of gates.
+pub depths-length : (net : List ℕ) (g : ℕ) → length (depthsTo net g) ≡ inputsOf net + g
+unfolding depthsTo
+depths-length net g =
+    omega (arith, run-length depAlg (replicate (inputsOf net) 0) (gatesAt net 3 g), gates-length net 3 g, length-replicate {A = ℕ} (inputsOf net) 0)
+
+pub depths-more : (net : List ℕ) (g : ℕ) → depthsTo net (g + 1) ≡ depthsTo net g ++ step depAlg (depthsTo net g) (gateAt net (gatePlace g)) ∷ []
+unfolding depthsTo
+depths-more net g =
+    ap (run depAlg (replicate (inputsOf net) 0)) (gates-snoc net 3 g)
+    ∙ run-append depAlg (replicate (inputsOf net) 0) (gatesAt net 3 g) (gateAt net (gatePlace g) ∷ [])
+
+step-le : (v : List ℕ) (m : ℕ) (g : Gate) → ((k : ℕ) → getD v k 0 ≤ m) → step depAlg v g ≤ m + 1
+step-le v m Zero h = omega arith
+step-le v m One h = omega arith
+step-le v m (Not a) h = omega (arith, h a)
+step-le v m (Xor a b) h = omega (arith, h a, h b)
+step-le v m (And a b) h = omega (arith, h a, h b)
+step-le v m (Mux a b c) h = omega (arith, h a, h b, h c)
+
+snoc-le : (ds : List ℕ) (v m : ℕ) → ((j : ℕ) → getD ds j 0 ≤ m) → v ≤ m → (k : ℕ) → getD (ds ++ v ∷ []) k 0 ≤ m
+snoc-le [] v m h p zero = p
+snoc-le [] v m h p (suc k) = zero-le
+snoc-le (d ∷ ds) v m h p zero = h 0
+snoc-le (d ∷ ds) v m h p (suc k) = snoc-le ds v m (λ j. h (suc j)) p k
+
+depths-none : (net : List ℕ) (k : ℕ) → getD (depthsTo net 0) k 0 ≤ 0
+unfolding depthsTo
+depths-none net k = zeros-le (inputsOf net) k
+
+pub depths-le : (net : List ℕ) (g k : ℕ) → getD (depthsTo net g) k 0 ≤ g
+depths-le net zero k = depths-none net k
+depths-le net (suc g) k =
+    subst (λ (n : ℕ). getD (depthsTo net n) k 0 ≤ n) (add-one g)
+    (rw (depths-more net g)
+    (snoc-le (depthsTo net g) _ (g + 1) (λ j. omega (arith, depths-le net g j)) (step-le (depthsTo net g) g (gateAt net (gatePlace g)) (depths-le net g)) k))
+
+pub depths-whole : (net : List ℕ) → depthsTo net (gatesOf net) ≡ depths (netOf net)
+unfolding depthsTo
+depths-whole net = refl
+
+pub depths-count : (net : List ℕ) → length (depths (netOf net)) ≡ inputsOf net + gatesOf net
+depths-count net = ap length (sym (depths-whole net)) ∙ depths-length net (gatesOf net)
+
+step-over : (front old : List ℕ) (g : Gate) → Uses (length front) g → step depAlg (over front old) g ≡ step depAlg front g
+unfolding over
+step-over front old g u = step-front depAlg front _ g u
+
+-- For the loop over the gates: it starts at the inputs, each operand stands, and one more depth is stored.
+pub gates-start : {net : List ℕ} {i n : ℕ} {ds : List ℕ} → Lent net i n ds → ds ≡ over (replicate i 0) ds → ds ≡ over (depthsTo net 0) ds
+unfolding depthsTo
+gates-start {net} {i} {n} {ds} s e = e ∙ ap (λ (k : ℕ). over (replicate k 0) ds) (s .inputs)
+
+module _ {net : List ℕ} {i n : ℕ} {old : List ℕ} (s : Lent net i n old) (g : ℕ) (less : g < n) {out : List ℕ} (e : out ≡ over (depthsTo net g) old) {d : Gate} (is : d ≡ gateAt net (gatePlace g)) where
+  front-length : length (depthsTo net g) ≡ i + g
+  front-length = omega (arith, depths-length net g, s .inputs)
+
+  uses : Uses (length (depthsTo net g)) d
+  uses = let e′ : length (depthsTo net g) ≡ inputsOf net + g = depths-length net g in rw (is, e′) (s .sound .uses g (omega (arith, s .gates)))
+
+  pub gate-reads : Operands out d
+  gate-reads =
+      let long : length out ≡ length old = ap length e ∙ length-over (depthsTo net g) old (omega (arith, front-length, s .room)) in
+      each-map d
+      (λ a k. (
+        omega (arith, front-length, s .room),
+        let r : getD out a 0 ≡ getD (depthsTo net g) a 0 = rw e (over-at (depthsTo net g) old a k) in
+            omega (arith, depths-le net g a, s .gates, s .sound .limits .gates),
+      ))
+      uses
+
+  pub gate-more : {v : ℕ} → v ≡ step depAlg out d → set out (i + g) v ≡ over (depthsTo net (g + 1)) old
+  gate-more {v} h =
+      let deep : v ≡ step depAlg (depthsTo net g) d = h ∙ ap (λ (o : List ℕ). step depAlg o d) e ∙ step-over (depthsTo net g) old d uses in
+      let whole : depthsTo net g ++ v ∷ [] ≡ depthsTo net (g + 1) = rw (deep, is) (sym (depths-more net g)) in
+      rw e (over-next (depthsTo net g) old (i + g) v front-length (omega (arith, s .room)) ∙ ap (λ (f : List ℕ). over f old) whole)
+
+-- The largest.
+max-append : (a b : List ℕ) → maxOf (a ++ b) ≡ max (maxOf a) (maxOf b)
+max-append [] b = omega arith
+max-append (x ∷ a) b = omega (arith, max-append a b)
+
+max-zeros : (n : ℕ) → maxOf (replicate n 0) ≡ 0
+max-zeros zero = refl
+max-zeros (suc n) = omega (arith, max-zeros n)
+
+-- For the loops that look for it: one more, and the end.
+pub max-more : (l : List ℕ) (i : ℕ) {t r : ℕ} → i < length l → t ≡ maxOf (take i l) → r ≡ max t (getD l i 0) → r ≡ maxOf (take (i + 1) l)
+max-more l i h e d =
+    rw (add-one i, take-suc l i 0 h) (omega (arith, max-append (take i l) (getD l i 0 ∷ [])))
+
+-- of what the wires at words s, s + 1, .. carry
+module _ (f : ℕ → ℕ) (l : List ℕ) (s o : ℕ) {t : ℕ} (e : t ≡ maxOf (map f (take o (drop s l)))) where
+  pub outs-more : {r : ℕ} → s + o < length l → r ≡ max t (f (getD l (s + o) 0)) → r ≡ maxOf (map f (take (o + 1) (drop s l)))
+  outs-more h d =
+      rw (add-one o, take-suc (drop s l) o 0 (omega (arith, length-drop s l)), map-append f (take o (drop s l)), getD-drop s l o 0)
+      (omega (arith, max-append (map f (take o (drop s l))) (f (getD l (s + o) 0) ∷ [])))
+
+  pub outs-all : length l ≤ s + o → t ≡ maxOf (map f (drop s l))
+  outs-all h = e ∙ ap (λ (k : List ℕ). maxOf (map f k)) (take-all o (drop s l) (omega (arith, length-drop s l)))
+
+run-front : {X : Type 0} (A : Alg X) (v : List X) (gs : List Gate) → take (length v) (run A v gs) ≡ v
+run-front A v [] = take-length v
+run-front A v (g ∷ gs) =
+    let w = v ++ step A v g ∷ [] in
+    let l : length v ≤ length w = omega (arith, length-snoc v (step A v g)) in
+    sym (take-take (length v) (length w) (run A w gs) l) ∙ ap (take (length v)) (run-front A w gs) ∙ take-append-seam v _
+
+-- the inputs' depths are 0, so that the largest of all wires' is the gates'
+max-gates : (n : Net) → maxOf (depths n) ≡ maxOf (drop (n .inputs) (depths n))
+max-gates n =
+    let z : List ℕ = replicate (n .inputs) 0 in
+    let e : take (n .inputs) (depths n) ≡ z = rw (length-replicate {A = ℕ} (n .inputs) 0) at (run-front depAlg z (n .gates)) in
+    ap maxOf (sym (take-append-drop (n .inputs) (depths n)))
+    ∙ max-append (take (n .inputs) (depths n)) (drop (n .inputs) (depths n))
+    ∙ ap (λ (l : List ℕ). max (maxOf l) (maxOf (drop (n .inputs) (depths n)))) e
+    ∙ omega (arith, max-zeros (n .inputs))
+
+pub gate-level : (n : Net) (g : ℕ) → getD (depths n) (n .inputs + g) 0 < levelCount n
+gate-level n g =
+    omega (arith, getD-drop (n .inputs) (depths n) g 0, at-le-max (drop (n .inputs) (depths n)) g)
+
+-- For the passes over the depths, once they stand.
+pub top-level : (net old : List ℕ) → maxOf (take (inputsOf net + gatesOf net) (over (depths (netOf net)) old)) + 1 ≡ levelCount (netOf net)
+top-level net old =
+    let t : take (inputsOf net + gatesOf net) (over (depths (netOf net)) old) ≡ depths (netOf net) = rw (depths-count net) at (take-over (depths (netOf net)) old) in
+    rw t (omega (arith, max-gates (netOf net)))
+
+map-below : {X : Type 0} (p q : ℕ → X) (m : ℕ) (os : List ℕ) → Below m os → ((i : ℕ) → i < m → p i ≡ q i) → map p os ≡ map q os
+map-below p q m [] b h = refl
+map-below p q m (o ∷ os) b h = ap₂ _∷_ (h o (b .0)) (map-below p q m os (b .1) h)
+
+pub outs-depth : (net old : List ℕ) → Sound net → maxOf (map (at depAlg (over (depths (netOf net)) old)) (netOf net .outs)) ≡ depth (netOf net)
+outs-depth net old s =
+    ap maxOf
+    (map-below _ _ (wiresOf (netOf net)) (netOf net .outs) (sound-valid net s .outs)
+    (λ i h. over-at (depths (netOf net)) old i (omega (arith, depths-count net, gates-length net 3 (gatesOf net)))))
+
+-- For the two passes that fill the depths: the first leaves what the second asks, and both together fill.
+module _ {net : List ℕ} {i g : ℕ} {ds mid : List ℕ} (s : Lent net i g ds) (e : mid ≡ over (replicate i 0) ds) where
+  pub inputs-stand : Lent net i g mid × (mid ≡ over (replicate i 0) mid)
+  inputs-stand =
+      let long : length mid ≡ length ds = ap length e ∙ length-over (replicate i 0) ds (omega (arith, length-replicate {A = ℕ} i 0, s .room)) in
+      (record { sound = s .sound; inputs = s .inputs; gates = s .gates; room = omega (arith, s .room) }, over-stands (replicate i 0) ds e)
+
+  pub both-fill : {new : List ℕ} → new ≡ over (depthsTo net g) mid → new ≡ over (depthsTo net g) ds
+  both-fill h =
+      h
+      ∙ ap (over (depthsTo net g)) e
+      ∙ over-over (replicate i 0) (depthsTo net g) ds (omega (arith, length-replicate {A = ℕ} i 0, depths-length net g, s .inputs))
