@@ -7,8 +7,9 @@ use native.Mathlib.Decide.{decLe}
 use native.Mathlib.Nat.{not-le-of-lt}
 use native.Mathlib.Omega.{arith}
 use lib.ListN.{length, getD}
-use borrow.Author.Tests.{ltb-false, le-ltb}
-use Rattle.answer.specs.declared.Answer.the-variants.{Done}
+use borrow.Author.Tests.{ltb-false, lt-ltb, le-ltb}
+use Rattle.answer.specs.declared.Answer.the-variants.{Done, Refused}
+use Rattle.answer.specs.Answers.{refuse}
 use Rattle.answer.specs.Choose.{choose}
 use Rattle.answer.specs.First.{firstFrom, first, Scan}
 use Rattle.answer.specs.Bits.{aboveOne, bitsAnswer}
@@ -79,3 +80,12 @@ done-bits l s h =
     let none : first (aboveOne s) (length s) ≡ length s = first-none (aboveOne s) (length s) (λ k l. le-ltb 1 (getD s k 0) (h k l)) in
     let all : length s ≤ first (aboveOne s) (length s) = omega arith in
     refuse-not 4 l _ (le-ltb _ _ all)
+
+-- For code that judges a list for 4 by its first byte that is no bit, found at place r.
+pub bits-stop : (l : ℕ) (s : List ℕ) (r : ℕ) → r ≡ first (aboveOne s) (length s) → r < length s → Refused 4 l r ≡ bitsAnswer l s
+unfolding bitsAnswer refuse
+bits-stop l s r e h = rw (← e, lt-ltb r (length s) h)
+
+pub bits-go : (l : ℕ) (s : List ℕ) (r : ℕ) → r ≡ first (aboveOne s) (length s) → length s ≤ r → bitsAnswer l s ≡ Done
+unfolding bitsAnswer refuse
+bits-go l s r e h = rw (← e, le-ltb r (length s) h)

@@ -4,8 +4,12 @@ use mathlib.Core.Path.{_≡_, sym, ap, _∙_}
 use mathlib.Core.List.{List}
 use Rattle.answer.specs.declared.Answer.{Answer}
 use Rattle.answer.specs.Fronts.{left}
+use Rattle.netlist.specs.Net.{depth, mults}
+use Rattle.netlist.specs.Words.{netOf}
 use Rattle.netlist.specs.Check.{netAnswer}
 use Rattle.evaluate.specs.Evaluate.{Evaluated}
+use Rattle.meter.specs.declared.Metered.{Metered}
+use Rattle.meter.specs.Meter.{ifDone, MeteredAs}
 use Rattle.glue.specs.Glue.{GluedAs}
 
 -- two lists that were left by equal answers
@@ -25,3 +29,18 @@ pub glue-decides : (a b out : List ℕ) {r s : Answer} {v w : List ℕ} → Glue
 glue-decides a b out x y =
     let e = x .answered ∙ sym (y .answered) in
     (e, same-left _ _ e (x .written) (y .written))
+
+pub meter-decides : (net ds ands muxes : List ℕ) {r s : Metered} {d e a b m n : List ℕ}
+    → MeteredAs net ds ands muxes r d a m → MeteredAs net ds ands muxes s e b n → (r ≡ s) × (d ≡ e) × (a ≡ b) × (m ≡ n)
+meter-decides net ds ands muxes {r} {s} x y =
+    let p = x .answered ∙ sym (y .answered) in
+    let q = x .deep ∙ ap (λ (t : Answer). ifDone t (depth (netOf net))) p ∙ sym (y .deep) in
+    let t = x .multiplied ∙ ap (λ (t : Answer). ifDone t (mults (netOf net))) p ∙ sym (y .multiplied) in (
+      metered-eq r s p q t,
+      x .filled ∙ sym (y .filled),
+      same-left _ _ p (x .andsTold) (y .andsTold),
+      same-left _ _ p (x .muxesTold) (y .muxesTold),
+    )
+  where
+    metered-eq : (r s : Metered) → r .answer ≡ s .answer → r .depth ≡ s .depth → r .multiplications ≡ s .multiplications → r ≡ s
+    metered-eq r s p q t i = record { answer = p i; depth = q i; multiplications = t i }

@@ -1,2 +1,3 @@
 pub mod Decides
 pub mod Gluing
+pub mod Metering

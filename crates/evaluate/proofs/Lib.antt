@@ -1,4 +1,3 @@
-pub mod Bits
 pub mod Readings
 pub mod Walks
 pub mod Accepted

@@ -1,6 +1,6 @@
 -- The walks, step by step, and what they make of a sound netlist.
 use Prim.Native.Nat.{ℕ, _+_, _<_, _≤_}
-use mathlib.Core.Path.{_≡_, refl, sym, ap, ap₂, _∙_}
+use mathlib.Core.Path.{_≡_, sym, ap, _∙_}
 use mathlib.Core.List.{List, [], _∷_, _++_, map}
 use native.Mathlib.Omega.{arith}
 use native.Mathlib.Numerals.{add-one}
@@ -8,12 +8,12 @@ use lib.ListN.{length, getD, set, take, drop, length-drop, length-map, length-ta
 use lib.Seq.{length-take-le, take-suc, take-all, getD-drop, getD-take}
 use Rattle.answer.specs.Fronts.{over}
 use Rattle.answer.proofs.Over.{over-none, over-next, over-at, over-take, length-over, take-over, over-over}
-use Rattle.netlist.specs.Net.{Uses, at, step, run, valAlg, values, eval, Below}
+use Rattle.netlist.specs.Net.{Uses, at, step, run, valAlg, values, eval}
 use Rattle.netlist.specs.Words.{inputsOf, gatesOf, outputsOf, gatePlace, gateAt, gatesAt, netOf}
 use Rattle.netlist.proofs.Gates.{operands-low}
 use Rattle.netlist.proofs.Sim.{run-append, run-length, step-front, each-map}
 use Rattle.netlist.proofs.Bits.{Bits, bits-within, run-bits}
-use Rattle.netlist.proofs.Glued.{map-append}
+use Rattle.netlist.proofs.Glued.{map-append, map-agree}
 use Rattle.netlist.proofs.Words.{gates-length, gates-snoc, outs-length, sound-valid}
 use Rattle.evaluate.specs.Ready.{Ready}
 use Rattle.evaluate.specs.Truth.{truthAt}
@@ -101,10 +101,6 @@ module _ (net vals : List ℕ) (start : ℕ) (outs : List ℕ) where
       ∙ ap (λ (t : List ℕ). over t outs) (sym (ap (map f) e ∙ map-append f (take n d) (getD net (start + n) 0 ∷ [])))
 
 -- All of them, on a sound netlist.
-map-agree : (f g : ℕ → ℕ) (m : ℕ) (l : List ℕ) → Below m l → ((i : ℕ) → i < m → f i ≡ g i) → map f l ≡ map g l
-map-agree f g m [] b h = refl
-map-agree f g m (x ∷ l) b h = ap₂ _∷_ (h x (b .0)) (map-agree f g m l (b .1) h)
-
 module _ (net inputs : List ℕ) (v o : ℕ) (r : Ready net inputs v o) where
   pub gates-fit : (vals : List ℕ) {x : List ℕ} → length vals ≡ v → x ≡ over inputs vals → GatesFit net (inputsOf net) (gatesOf net) x
   gates-fit vals e f =

@@ -1,6 +1,6 @@
 -- Laws of depths: their bounds, one more gate, and the largest of them.
-use Prim.Native.Nat.{ℕ, zero, suc, _+_, _<_, _≤_, max, zero-le}
-use mathlib.Core.Path.{_≡_, refl, sym, ap, ap₂, subst, _∙_}
+use Prim.Native.Nat.{ℕ, zero, suc, _+_, _/_, _<_, _≤_, max, zero-le}
+use mathlib.Core.Path.{_≡_, refl, sym, ap, subst, _∙_}
 use mathlib.Core.List.{List, [], _∷_, _++_, map}
 use native.Mathlib.Omega.{arith}
 use native.Mathlib.Numerals.{add-one}
@@ -11,14 +11,17 @@ use Rattle.answer.specs.Fronts.{over}
 use Rattle.answer.proofs.Over.{over-next, over-at, over-over, length-over, take-over}
 use Rattle.netlist.specs.declared.gate.Gate.{Gate}
 use Rattle.netlist.specs.declared.gate.Gate.the-variants.{Zero, One, Not, Xor, And, Mux}
-use Rattle.netlist.specs.Net.{Net, Alg, at, step, run, depAlg, maxOf, depths, depth, wiresOf, Uses, Below}
+use Rattle.netlist.specs.Gates.{takenOf, gateOf, codeOf}
+use Rattle.netlist.specs.Net.{Net, Alg, at, step, run, depAlg, maxOf, depths, depth, wiresOf, Each, Uses}
 use Rattle.netlist.specs.Words.{inputsOf, gatesOf, gatePlace, gateAt, gatesAt, netOf}
+use Rattle.netlist.specs.Check.{gateLimit}
 use Rattle.netlist.specs.Sound.{Sound}
+use Rattle.netlist.proofs.Gates.{operands-low}
 use Rattle.netlist.proofs.Sim.{length-snoc, run-append, run-length, step-front, each-map}
-use Rattle.netlist.proofs.Glued.{map-append, at-le-max}
+use Rattle.netlist.proofs.Glued.{map-append, map-agree, at-le-max}
 use Rattle.netlist.proofs.Words.{gates-length, gates-snoc, sound-valid}
 use Rattle.meter.specs.Levels.{levelCount}
-use Rattle.meter.specs.Passes.{Operands, depthsTo, Lent}
+use Rattle.meter.specs.Passes.{deepest, depthsTo, Lent}
 
 -- Lists of zeros.
 zeros-le : (n k : ℕ) → getD (replicate n 0) k 0 ≤ 0
@@ -95,29 +98,59 @@ pub gates-start : {net : List ℕ} {i n : ℕ} {ds : List ℕ} → Lent net i n 
 unfolding depthsTo
 gates-start {net} {i} {n} {ds} s e = e ∙ ap (λ (k : ℕ). over (replicate k 0) ds) (s .inputs)
 
-module _ {net : List ℕ} {i n : ℕ} {old : List ℕ} (s : Lent net i n old) (g : ℕ) (less : g < n) {out : List ℕ} (e : out ≡ over (depthsTo net g) old) {d : Gate} (is : d ≡ gateAt net (gatePlace g)) where
+-- the depth that a gate's words k, a, b, c give, where wires have the depths v
+deep-right : (k a b c : ℕ) (v : List ℕ)
+    → deepest (gateOf k a b c) (getD v a 0) (getD v b 0) (getD v c 0) + codeOf (gateOf k a b c) / 4 ≡ step depAlg v (gateOf k a b c)
+unfolding deepest gateOf takenOf
+deep-right zero a b c v = refl
+deep-right (suc zero) a b c v = refl
+deep-right (suc (suc zero)) a b c v = omega arith
+deep-right (suc (suc (suc zero))) a b c v = omega arith
+deep-right (suc (suc (suc (suc zero)))) a b c v = omega arith
+deep-right (suc (suc (suc (suc (suc zero))))) a b c v = omega arith
+deep-right (suc (suc (suc (suc (suc (suc k)))))) a b c v = refl
+
+deep-low : (k a b c m : ℕ) (v : List ℕ) → Each (λ i. getD v i 0 ≤ m) (gateOf k a b c) → deepest (gateOf k a b c) (getD v a 0) (getD v b 0) (getD v c 0) ≤ m
+unfolding deepest gateOf takenOf
+deep-low zero a b c m v u = omega arith
+deep-low (suc zero) a b c m v u = omega arith
+deep-low (suc (suc zero)) a b c m v u = omega (arith, u)
+deep-low (suc (suc (suc zero))) a b c m v u = omega (arith, u)
+deep-low (suc (suc (suc (suc zero)))) a b c m v u = omega (arith, u)
+deep-low (suc (suc (suc (suc (suc zero))))) a b c m v u = omega (arith, u)
+deep-low (suc (suc (suc (suc (suc (suc k)))))) a b c m v u = omega arith
+
+module _ {net : List ℕ} {i n : ℕ} {old : List ℕ} (s : Lent net i n old) (g : ℕ) (less : g < n) {out : List ℕ} (e : out ≡ over (depthsTo net g) old) where
   front-length : length (depthsTo net g) ≡ i + g
   front-length = omega (arith, depths-length net g, s .inputs)
 
-  uses : Uses (length (depthsTo net g)) d
-  uses = let e′ : length (depthsTo net g) ≡ inputsOf net + g = depths-length net g in rw (is, e′) (s .sound .uses g (omega (arith, s .gates)))
+  uses : Uses (length (depthsTo net g)) (gateAt net (gatePlace g))
+  uses = let e′ : length (depthsTo net g) ≡ inputsOf net + g = depths-length net g in rw e′ (s .sound .uses g (omega (arith, s .gates)))
 
-  pub gate-reads : Operands out d
-  gate-reads =
-      let long : length out ≡ length old = ap length e ∙ length-over (depthsTo net g) old (omega (arith, front-length, s .room)) in
-      each-map d
-      (λ a k. (
-        omega (arith, front-length, s .room),
-        let r : getD out a 0 ≡ getD (depthsTo net g) a 0 = rw e (over-at (depthsTo net g) old a k) in
-            omega (arith, depths-le net g a, s .gates, s .sound .limits .gates),
-      ))
-      uses
+  -- no operand word is past the gate's own wire
+  pub operands : (getD net (gatePlace g + 1) 0 ≤ i + g) × (getD net (gatePlace g + 2) 0 ≤ i + g) × (getD net (gatePlace g + 3) 0 ≤ i + g)
+  operands =
+      let h : g < gatesOf net = omega (arith, s .gates) in
+      rw (s .inputs) (operands-low _ _ _ _ _ (s .sound .uses g h) (s .sound .whole g h))
 
-  pub gate-more : {v : ℕ} → v ≡ step depAlg out d → set out (i + g) v ≡ over (depthsTo net (g + 1)) old
+  pub gate-low : deepest (gateAt net (gatePlace g)) (getD out (getD net (gatePlace g + 1) 0) 0) (getD out (getD net (gatePlace g + 2) 0) 0) (getD out (getD net (gatePlace g + 3) 0) 0) ≤ gateLimit
+  gate-low =
+      deep-low _ _ _ _ gateLimit out
+      (each-map (gateAt net (gatePlace g))
+      (λ a k. let r : getD out a 0 ≡ getD (depthsTo net g) a 0 = rw e (over-at (depthsTo net g) old a k) in
+      omega (arith, depths-le net g a, s .gates, s .sound .limits .gates))
+      uses)
+
+  pub gate-more : {v : ℕ}
+      → v ≡ deepest (gateAt net (gatePlace g)) (getD out (getD net (gatePlace g + 1) 0) 0) (getD out (getD net (gatePlace g + 2) 0) 0) (getD out (getD net (gatePlace g + 3) 0) 0) + codeOf (gateAt net (gatePlace g)) / 4
+      → set out (i + g) v ≡ over (depthsTo net (g + 1)) old
   gate-more {v} h =
-      let deep : v ≡ step depAlg (depthsTo net g) d = h ∙ ap (λ (o : List ℕ). step depAlg o d) e ∙ step-over (depthsTo net g) old d uses in
-      let whole : depthsTo net g ++ v ∷ [] ≡ depthsTo net (g + 1) = rw (deep, is) (sym (depths-more net g)) in
-      rw e (over-next (depthsTo net g) old (i + g) v front-length (omega (arith, s .room)) ∙ ap (λ (f : List ℕ). over f old) whole)
+      let d = gateAt net (gatePlace g) in
+      let deep : v ≡ step depAlg (depthsTo net g) d = h ∙ deep-right _ _ _ _ out ∙ ap (λ (o : List ℕ). step depAlg o d) e ∙ step-over (depthsTo net g) old d uses in
+      let whole : depthsTo net g ++ v ∷ [] ≡ depthsTo net (g + 1) = rw deep (sym (depths-more net g)) in
+      rw e
+      (over-next (depthsTo net g) old (i + g) v front-length (omega (arith, s .room))
+      ∙ ap (λ (f : List ℕ). over f old) whole)
 
 -- The largest.
 max-append : (a b : List ℕ) → maxOf (a ++ b) ≡ max (maxOf a) (maxOf b)
@@ -170,14 +203,10 @@ top-level net old =
     let t : take (inputsOf net + gatesOf net) (over (depths (netOf net)) old) ≡ depths (netOf net) = rw (depths-count net) at (take-over (depths (netOf net)) old) in
     rw t (omega (arith, max-gates (netOf net)))
 
-map-below : {X : Type 0} (p q : ℕ → X) (m : ℕ) (os : List ℕ) → Below m os → ((i : ℕ) → i < m → p i ≡ q i) → map p os ≡ map q os
-map-below p q m [] b h = refl
-map-below p q m (o ∷ os) b h = ap₂ _∷_ (h o (b .0)) (map-below p q m os (b .1) h)
-
 pub outs-depth : (net old : List ℕ) → Sound net → maxOf (map (at depAlg (over (depths (netOf net)) old)) (netOf net .outs)) ≡ depth (netOf net)
 outs-depth net old s =
     ap maxOf
-    (map-below _ _ (wiresOf (netOf net)) (netOf net .outs) (sound-valid net s .outs)
+    (map-agree _ _ (wiresOf (netOf net)) (netOf net .outs) (sound-valid net s .outs)
     (λ i h. over-at (depths (netOf net)) old i (omega (arith, depths-count net, gates-length net 3 (gatesOf net)))))
 
 -- For the two passes that fill the depths: the first leaves what the second asks, and both together fill.

@@ -1,24 +1,24 @@
 -- The passes that measure an accepted netlist: what each is lent, and what it leaves.
-use Prim.Native.Nat.{ℕ, _+_, _≤_, _<_}
+use Prim.Native.Nat.{ℕ, _+_, _≤_, max}
 use mathlib.Core.Path.{_≡_}
 use mathlib.Core.List.{List}
-use lib.ListN.{length, getD, replicate}
+use lib.ListN.{length, replicate}
+use lib.Dec.{ltb}
+use Rattle.answer.specs.Choose.{choose}
 use Rattle.answer.specs.Fronts.{left}
 use Rattle.netlist.specs.declared.gate.Gate.{Gate}
-use Rattle.netlist.specs.Net.{run, depAlg, Each, depths, depth}
+use Rattle.netlist.specs.Gates.{usesOf}
+use Rattle.netlist.specs.Net.{run, depAlg, depths, depth}
 use Rattle.netlist.specs.Words.{headerWords, inputsOf, gatesOf, gatesAt, netOf}
-use Rattle.netlist.specs.Check.{gateLimit}
 use Rattle.netlist.specs.Sound.{Sound}
 use Rattle.meter.specs.declared.Measured.{Measured}
 use Rattle.meter.specs.Levels.{levelCount}
 use Rattle.meter.specs.Meter.{depthsAnswer, ifDone}
 
--- wire a is one of ds, no deeper than a netlist has gates
-abbrev pub Shallow : List ℕ → ℕ → Type 0
-Shallow ds a = (a < length ds) × (getD ds a 0 ≤ gateLimit)
-
-abbrev pub Operands : List ℕ → Gate → Type 0
-Operands ds g = Each (Shallow ds) g
+-- the largest of the depths x, y and z of a gate's operand words, of those that it uses
+unfoldable pub deepest : Gate → ℕ → ℕ → ℕ → ℕ
+deepest g x y z =
+    max (choose (ltb 0 (usesOf g)) x 0) (max (choose (ltb 1 (usesOf g)) y 0) (choose (ltb 2 (usesOf g)) z 0))
 
 -- the depths of the inputs and of the first g gates
 unfoldable pub depthsTo : List ℕ → ℕ → List ℕ

@@ -5,16 +5,19 @@ use answer::Answer;
 use netlist::gate::Gate;
 ghost use mathlib.Core.Path.{_≡_};
 ghost use mathlib.Core.List.{map};
-ghost use Prim.Native.Nat.{ℕ, _+_, _≤_, _<_, max};
+ghost use Prim.Native.Nat.{ℕ, _+_, _/_, _≤_, _<_, max};
 ghost use lib.ListN.{length, getD, take, drop, replicate};
 ghost use lib.Dec.{ltb, eqb};
 ghost use Rattle.answer.specs.Answers.{_▹_, refuse};
+ghost use Rattle.answer.specs.Choose.{choose};
 ghost use Rattle.answer.specs.Fronts.{over};
-ghost use Rattle.netlist.specs.Net.{at, step, depAlg, maxOf};
+ghost use Rattle.netlist.specs.Gates.{codeOf};
+ghost use Rattle.netlist.specs.Net.{at, depAlg, maxOf};
 ghost use Rattle.netlist.specs.Words.{inputsOf, gatesOf, netOf};
+ghost use Rattle.netlist.specs.Check.{gateLimit};
 ghost use Rattle.meter.specs.Levels.{one, andKind, muxKind, levelCount};
 ghost use Rattle.meter.specs.Meter.{depthsAnswer, MeteredAs};
-ghost use Rattle.meter.specs.Passes.{Shallow, Operands, depthsTo, Lent, MeasuredAs};
+ghost use Rattle.meter.specs.Passes.{deepest, depthsTo, Lent, MeasuredAs};
 ghost use Rattle.meter.specs.Counted.{levelsTo, Counts, CountedAs};
 
 // The answer, with the netlist's depth and its multiplications, both 0 on a refusal.
@@ -37,35 +40,24 @@ fn larger(a: u32, b: u32) -> u32
     if a < b { b } else { a }
 }
 
-// The larger depth of two wires, and so many more.
-fn larger_of(depths: &[u32], a: u32, b: u32, more: u32) -> u32
-    requires { ⌜ (Shallow (now depths) a) × (Shallow (now depths) b) × (more ≤ 1) ⌝ }
-    ensures { λ r. ⌜ r ≡ max (getD (now (depths .entry)) a 0) (getD (now (depths .entry)) b 0) + more ⌝ }
+// The depth of an operand, 0 where it is not used.
+fn counted(used: bool, depth: u32) -> u32
+    ensures { λ r. ⌜ r ≡ choose used depth 0 ⌝ }
 {
-    let i = a as usize;
-    let j = b as usize;
-    larger(depths[i], depths[j]) + more
+    if used { depth } else { 0 }
 }
 
-// The depth of a gate over the wires before it.
-fn gate_depth(gate: Gate, depths: &[u32]) -> u32
-    requires { ⌜ Operands (now depths) gate ⌝ }
-    ensures { λ r. ⌜ r ≡ step depAlg (now (depths .entry)) gate ⌝ }
+// The depth of a gate whose operand words name wires of depth x, y and z; those that it does not use do not
+// count. Kinds 4 and 5, AND and MUX, are one deeper than their deepest operand.
+fn gate_depth(gate: Gate, x: u32, y: u32, z: u32) -> u32
+    requires { ⌜ deepest gate x y z ≤ gateLimit ⌝ }
+    ensures { λ r. ⌜ r ≡ deepest gate x y z + codeOf gate / 4 ⌝ }
 {
-    match gate {
-        Gate::Zero => 0,
-        Gate::One => 0,
-        Gate::Not(a) => {
-            let i = a as usize;
-            depths[i]
-        }
-        Gate::Xor(a, b) => larger_of(depths, a, b, 0),
-        Gate::And(a, b) => larger_of(depths, a, b, 1),
-        Gate::Mux(a, b, c) => {
-            let i = a as usize;
-            larger(depths[i], larger_of(depths, b, c, 0)) + 1
-        }
-    }
+    let n = netlist::gate::uses(gate);
+    let first = counted(0 < n, x);
+    let second = counted(1 < n, y);
+    let third = counted(2 < n, z);
+    larger(first, larger(second, third)) + netlist::gate::code(gate) / 4
 }
 
 // The first count words 0.
@@ -88,8 +80,14 @@ fn put_gates(net: &[u32], depths: &mut [u32], inputs: usize, gates: usize)
     let mut g: usize = 0;
     while g < gates {
         let at = 3 + 4 * g;
-        let d = netlist::gate::decoded(net[at], net[at + 1], net[at + 2], net[at + 3]);
-        let deep = gate_depth(d, depths);
+        let a = net[at + 1];
+        let b = net[at + 2];
+        let c = net[at + 3];
+        let gate = netlist::gate::decoded(net[at], a, b, c);
+        let i = a as usize;
+        let j = b as usize;
+        let k = c as usize;
+        let deep = gate_depth(gate, depths[i], depths[j], depths[k]);
         let wire = inputs + g;
         depths[wire] = deep;
         g += 1;

@@ -22,7 +22,7 @@ pub struct Metering {
     pub multiplications: u32,
 }
 
-fn reply(answer: Answer) -> Reply
+fn told(answer: Answer) -> Reply
     ensures { λ r. ⌜ r ≡ replyOf answer ⌝ }
 {
     match answer {
@@ -47,7 +47,7 @@ fn reply(answer: Answer) -> Reply
 pub extern "C" fn probe_check(net: &[u32]) -> Reply
     ensures { λ r. ⌜ r ≡ replyOf (netAnswer 1 (now (net .entry))) ⌝ }
 {
-    reply(netlist::check::check(net))
+    told(netlist::check::check(net))
 }
 
 #[no_mangle]
@@ -59,7 +59,7 @@ pub extern "C" fn probe_evaluate(
 ) -> Reply
     ensures { λ r. ⌜ EvaluateReply (now (net .entry)) (now (inputs .entry)) (now (values .entry)) (now (outputs .entry)) r (now (values .exit)) (now (outputs .exit)) ⌝ }
 {
-    reply(evaluate::evaluate(net, inputs, values, outputs))
+    told(evaluate::evaluate(net, inputs, values, outputs))
 }
 
 #[no_mangle]
@@ -73,7 +73,7 @@ pub extern "C" fn probe_meter(
 {
     let m = meter::meter(net, depths, ands, muxes);
     let answer = m.answer;
-    let r = reply(answer);
+    let r = told(answer);
     Metering {
         number: r.number,
         list: r.list,
@@ -87,5 +87,5 @@ pub extern "C" fn probe_meter(
 pub extern "C" fn probe_glue(first: &[u32], second: &[u32], out: &mut [u32]) -> Reply
     ensures { λ r. ⌜ GlueReply (now (first .entry)) (now (second .entry)) (now (out .entry)) r (now (out .exit)) ⌝ }
 {
-    reply(glue::glue(first, second, out))
+    told(glue::glue(first, second, out))
 }

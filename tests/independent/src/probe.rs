@@ -2,6 +2,7 @@
 //! first place and its length.
 
 use crate::netlist::{Answer, Metering};
+use std::mem::MaybeUninit;
 
 #[repr(C)]
 struct RawReply {
@@ -33,7 +34,12 @@ extern "C" {
         outputs_length: usize,
     ) -> RawReply;
 
+    /// A struct of more than two words is returned through a pointer that the
+    /// caller passes first and gets back: the rule of x86-64, by which the
+    /// library is compiled. It is written out, so that it is the same on a
+    /// processor whose own rule is another.
     fn probe_meter(
+        returned: *mut RawMetering,
         net: *const u32,
         net_length: usize,
         depths: *mut u32,
@@ -42,7 +48,7 @@ extern "C" {
         ands_length: usize,
         muxes: *mut u32,
         muxes_length: usize,
-    ) -> RawMetering;
+    ) -> *mut RawMetering;
 
     fn probe_glue(
         first: *const u32,
@@ -89,9 +95,11 @@ pub fn evaluate(net: &[u32], inputs: &[u8], values: &mut [u8], outputs: &mut [u8
 }
 
 pub fn meter(net: &[u32], depths: &mut [u32], ands: &mut [u32], muxes: &mut [u32]) -> Metering {
-    // SAFETY: as in `check`.
+    let mut returned = MaybeUninit::uninit();
+    // SAFETY: as in `check`; the library fills what is returned whole.
     let raw = unsafe {
         probe_meter(
+            returned.as_mut_ptr(),
             net.as_ptr(),
             net.len(),
             depths.as_mut_ptr(),
@@ -100,7 +108,8 @@ pub fn meter(net: &[u32], depths: &mut [u32], ands: &mut [u32], muxes: &mut [u32
             ands.len(),
             muxes.as_mut_ptr(),
             muxes.len(),
-        )
+        );
+        returned.assume_init()
     };
     Metering {
         answer: Answer {

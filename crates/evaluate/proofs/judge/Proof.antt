@@ -16,7 +16,7 @@ use Rattle.netlist.specs.Check.{netAnswer}
 use Rattle.netlist.specs.Sound.{Sound}
 use Rattle.netlist.proofs.Accepted.{done-sound}
 use Rattle.evaluate.specs.Evaluate.{evaluateAnswer}
-use Rattle.evaluate.proofs.Bits.{bits-stop, bits-go}
+use Rattle.answer.proofs.Search.{bits-stop, bits-go}
 use borrow.Author.Needs.{needs}
 use Rattle.evaluate.proofs.judge.Statement.{statement}
 use Rattle.evaluate.proofs.judge.Tie as tie

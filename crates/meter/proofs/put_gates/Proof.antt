@@ -1,10 +1,12 @@
-use Prim.Native.Nat.{_≤_, _-_}
+use Prim.Native.Nat.{_≤_, _-_, _+_}
 use mathlib.Core.Path.{_≡_}
 use native.Mathlib.Nat.{le-antisymm}
-use lib.ListN.{length}
+use native.Mathlib.Omega.{arith}
+use lib.ListN.{length, getD}
 use Rattle.answer.specs.Fronts.{over}
+use Rattle.netlist.specs.Words.{gatePlace}
 use Rattle.meter.specs.Passes.{depthsTo}
-use Rattle.meter.proofs.Depths.{gates-start, gate-reads, gate-more}
+use Rattle.meter.proofs.Depths.{gates-start, operands, gate-low, gate-more}
 use borrow.Author.Needs.{needs}
 use Rattle.meter.proofs.put_gates.Statement.{statement}
 use Rattle.meter.proofs.put_gates.Tie as tie
@@ -15,6 +17,14 @@ Inv-loop net depths₀ inputs gates g₀ depths g = (g ≤ gates) × (length dep
 abbrev μ-loop : tie.MeasureT-loop
 μ-loop net depths₀ inputs gates g₀ depths g = gates - g
 
+-- no operand word is past the gate's own wire
+low : (c : tie.After-decoded Inv-loop μ-loop) →
+    let l = c .before .before .before .before .before .before .loop in
+    let a = c .before .before .before .before .before .before .before .before .before .args in
+    let w = a .inputs + l .g in
+    (getD (a .net .now) (gatePlace (l .g) + 1) 0 ≤ w) × (getD (a .net .now) (gatePlace (l .g) + 2) 0 ≤ w) × (getD (a .net .now) (gatePlace (l .g) + 3) 0 ≤ w)
+low c = operands (c .before .before .before .before .before .before .before .before .before .pre .0) _ (c .before .before .before .before .before .loop-test .taken) (c .before .before .before .before .before .before .loop .inv .2)
+
 loop-holds : tie.Need-loop-holds Inv-loop μ-loop
 loop-holds c = (search needs, search needs, gates-start (c .before .before .pre .0) (c .before .before .pre .1))
 
@@ -24,47 +34,74 @@ mul-at c = search needs
 add-at : tie.Need-add-at Inv-loop μ-loop
 add-at c = search needs
 
+add-a : tie.Need-add-a Inv-loop μ-loop
+add-a c = search needs
+
+mul-a : tie.Need-mul-a Inv-loop μ-loop
+mul-a c = search needs
+
+shared-slice-read-a : tie.Need-shared-slice-read-a Inv-loop μ-loop
+shared-slice-read-a c = search needs
+
+add-b : tie.Need-add-b Inv-loop μ-loop
+add-b c = search needs
+
+mul-b : tie.Need-mul-b Inv-loop μ-loop
+mul-b c = search needs
+
+shared-slice-read-b : tie.Need-shared-slice-read-b Inv-loop μ-loop
+shared-slice-read-b c = search needs
+
+add-c : tie.Need-add-c Inv-loop μ-loop
+add-c c = search needs
+
+mul-c : tie.Need-mul-c Inv-loop μ-loop
+mul-c c = search needs
+
+shared-slice-read-c : tie.Need-shared-slice-read-c Inv-loop μ-loop
+shared-slice-read-c c = search needs
+
 mul-decoded : tie.Need-mul-decoded Inv-loop μ-loop
 mul-decoded c = search needs
 
 shared-slice-read-decoded : tie.Need-shared-slice-read-decoded Inv-loop μ-loop
 shared-slice-read-decoded c = search needs
 
-add-decoded : tie.Need-add-decoded Inv-loop μ-loop
-add-decoded c = search needs
-
-mul-decoded-2 : tie.Need-mul-decoded-2 Inv-loop μ-loop
-mul-decoded-2 c = search needs
-
-shared-slice-read-decoded-2 : tie.Need-shared-slice-read-decoded-2 Inv-loop μ-loop
-shared-slice-read-decoded-2 c = search needs
-
-add-decoded-2 : tie.Need-add-decoded-2 Inv-loop μ-loop
-add-decoded-2 c = search needs
-
-mul-decoded-3 : tie.Need-mul-decoded-3 Inv-loop μ-loop
-mul-decoded-3 c = search needs
-
-shared-slice-read-decoded-3 : tie.Need-shared-slice-read-decoded-3 Inv-loop μ-loop
-shared-slice-read-decoded-3 c = search needs
-
-add-decoded-3 : tie.Need-add-decoded-3 Inv-loop μ-loop
-add-decoded-3 c = search needs
-
-mul-decoded-4 : tie.Need-mul-decoded-4 Inv-loop μ-loop
-mul-decoded-4 c = search needs
-
-shared-slice-read-decoded-4 : tie.Need-shared-slice-read-decoded-4 Inv-loop μ-loop
-shared-slice-read-decoded-4 c = search needs
-
 decoded-requires : tie.Need-decoded-requires Inv-loop μ-loop
 decoded-requires c κs = search needs
 
+cast-i : tie.Need-cast-i Inv-loop μ-loop
+cast-i c = omega (arith, low c)
+
+cast-j : tie.Need-cast-j Inv-loop μ-loop
+cast-j c = omega (arith, low c)
+
+cast-k : tie.Need-cast-k Inv-loop μ-loop
+cast-k c = omega (arith, low c)
+
+mul-gate-depth : tie.Need-mul-gate-depth Inv-loop μ-loop
+mul-gate-depth c = omega (arith, low c)
+
+slice-read-gate-depth : tie.Need-slice-read-gate-depth Inv-loop μ-loop
+slice-read-gate-depth c = omega (arith, low (c .before))
+
+mul-gate-depth-2 : tie.Need-mul-gate-depth-2 Inv-loop μ-loop
+mul-gate-depth-2 c = omega (arith, low (c .before))
+
+slice-read-gate-depth-2 : tie.Need-slice-read-gate-depth-2 Inv-loop μ-loop
+slice-read-gate-depth-2 c = omega (arith, low (c .before .before))
+
+mul-gate-depth-3 : tie.Need-mul-gate-depth-3 Inv-loop μ-loop
+mul-gate-depth-3 c = omega (arith, low (c .before .before))
+
+slice-read-gate-depth-3 : tie.Need-slice-read-gate-depth-3 Inv-loop μ-loop
+slice-read-gate-depth-3 c = omega (arith, low (c .before .before .before))
+
 gate-depth-requires : tie.Need-gate-depth-requires Inv-loop μ-loop
 gate-depth-requires c κs =
-    let l = c .before .before .before .before .before .before in
-    let p = l .before .before .before .before .pre in
-    gate-reads (p .0) (l .before .loop .g) (l .loop-test .taken) (l .before .loop .inv .2) (c .before .decoded .ensures)
+    let t = c .before .before .before .before .before .before .before .before in
+    let p = t .before .before .before .before .pre in
+    rw (c .before .before .before .decoded .ensures) (gate-low (p .0) (t .before .loop .g) (t .loop-test .taken) (t .before .loop .inv .2))
 
 add-wire : tie.Need-add-wire Inv-loop μ-loop
 add-wire c = search needs
@@ -83,9 +120,10 @@ loop-less c = search needs
 
 loop-again : tie.Need-loop-again Inv-loop μ-loop
 loop-again c =
-    let l = c .before .before .before .before .before .before .before in
-    let p = l .before .before .before .before .pre in
-    (search needs, search needs, gate-more (p .0) (l .before .loop .g) (l .loop-test .taken) (l .before .loop .inv .2) (c .before .before .decoded .ensures) (c .gate-depth .ensures))
+    let t = c .before .before .before .before .before .before .before .before .before in
+    let p = t .before .before .before .before .pre in
+    let d = rw (c .before .before .before .before .decoded .ensures) at (c .gate-depth .ensures) in
+    (search needs, search needs, gate-more (p .0) (t .before .loop .g) (t .loop-test .taken) (t .before .loop .inv .2) d)
 
 same-length : tie.Need-same-length Inv-loop μ-loop
 same-length c = c .before .loop .inv .1
@@ -102,18 +140,27 @@ put-gates-spec =
     loop-holds
     mul-at
     add-at
+    add-a
+    mul-a
+    shared-slice-read-a
+    add-b
+    mul-b
+    shared-slice-read-b
+    add-c
+    mul-c
+    shared-slice-read-c
     mul-decoded
     shared-slice-read-decoded
-    add-decoded
-    mul-decoded-2
-    shared-slice-read-decoded-2
-    add-decoded-2
-    mul-decoded-3
-    shared-slice-read-decoded-3
-    add-decoded-3
-    mul-decoded-4
-    shared-slice-read-decoded-4
     decoded-requires
+    cast-i
+    cast-j
+    cast-k
+    mul-gate-depth
+    slice-read-gate-depth
+    mul-gate-depth-2
+    slice-read-gate-depth-2
+    mul-gate-depth-3
+    slice-read-gate-depth-3
     gate-depth-requires
     add-wire
     mul-depths
