@@ -1,6 +1,8 @@
 // Evaluation of a netlist on bits in the clear: document 01, "Netlists". A value for every wire, then the
 // outputs. Judged 9, 3, 4, 8; the lists are the netlist, the inputs, the values and the outputs.
 use answer::Answer;
+use netlist::GATE_STRIDE;
+use netlist::HEADER_WORDS;
 use netlist::gate::Gate;
 ghost use mathlib.Core.Path.{_≡_};
 ghost use Prim.Native.Nat.{_≤_};
@@ -51,7 +53,7 @@ fn put_gates(net: &[u32], values: &mut [u8], inputs: usize, gates: usize)
 {
     let mut g: usize = 0;
     while g < gates {
-        let at = 3 + 4 * g;
+        let at = HEADER_WORDS + GATE_STRIDE * g;
         let a = net[at + 1];
         let b = net[at + 2];
         let c = net[at + 3];
@@ -132,6 +134,6 @@ pub fn evaluate(net: &[u32], inputs: &[u8], values: &mut [u8], outputs: &mut [u8
     let o = net[2] as usize;
     put_inputs(inputs, values);
     put_gates(net, values, i, g);
-    put_outputs(net, values, outputs, 3 + 4 * g, o);
+    put_outputs(net, values, outputs, HEADER_WORDS + GATE_STRIDE * g, o);
     Answer::Done
 }

@@ -2,6 +2,8 @@
 // written from where the first's end; outputs of the second. Judged 9, 9, 8, 10, 11; the lists are the
 // first, the second and the result.
 use answer::Answer;
+use netlist::GATE_STRIDE;
+use netlist::HEADER_WORDS;
 use netlist::gate::Gate;
 ghost use mathlib.Core.Path.{_≡_};
 ghost use mathlib.Core.List.{[], _∷_, _++_, map};
@@ -92,10 +94,10 @@ fn put_gates(second: &[u32], gates: usize, outs: &[u32], base: u32, out: &mut [u
 {
     let mut g: usize = 0;
     while g < gates {
-        let at = 3 + 4 * g;
+        let at = HEADER_WORDS + GATE_STRIDE * g;
         let d = netlist::gate::decoded(second[at], second[at + 1], second[at + 2], second[at + 3]);
         let e = renamed(outs, base, d);
-        put_gate(out, 4 * g, e);
+        put_gate(out, GATE_STRIDE * g, e);
         g += 1;
     }
 }
@@ -119,8 +121,8 @@ fn put_second(second: &[u32], outs: &[u32], base: u32, out: &mut [u32])
     ensures { λ r. ⌜ now (out .exit) ≡ over (secondWords (now (second .entry)) (now (outs .entry)) base) (now (out .entry)) ⌝ }
 {
     let gates = second[1] as usize;
-    let start = 3 + 4 * gates;
-    let end = 4 * gates;
+    let start = HEADER_WORDS + GATE_STRIDE * gates;
+    let end = GATE_STRIDE * gates;
     put_gates(second, gates, outs, base, out);
     put_outputs(&second[start..], outs, base, &mut out[end..]);
 }
@@ -152,9 +154,9 @@ fn write(first: &[u32], second: &[u32], out: &mut [u32])
 {
     let inputs = first[0];
     let gates = first[1];
-    let at = 3 + 4 * (gates as usize);
+    let at = HEADER_WORDS + GATE_STRIDE * (gates as usize);
     put_header(out, inputs, gates + second[1], second[2]);
-    copy(&first[3..at], &mut out[3..]);
+    copy(&first[HEADER_WORDS..at], &mut out[HEADER_WORDS..]);
     put_second(second, &first[at..], inputs + gates, &mut out[at..]);
 }
 
@@ -170,7 +172,7 @@ fn judge(first: &[u32], second: &[u32], room: usize) -> Answer
         return s;
     };
     let gates = first[1] + second[1];
-    if room < 3 + 4 * (gates as usize) + second[2] as usize {
+    if room < HEADER_WORDS + GATE_STRIDE * (gates as usize) + second[2] as usize {
         return Answer::Refused {
             number: answer::ROOM,
             list: 3,

@@ -2,7 +2,11 @@
 // the netlist's depth and its multiplications. Judged 9, 8; the lists are the netlist, the depths and the
 // levels, which are two lists of words: the ANDs and the MUXes.
 use answer::Answer;
+use netlist::GATE_STRIDE;
+use netlist::HEADER_WORDS;
+use netlist::gate::AND_KIND;
 use netlist::gate::Gate;
+use netlist::gate::MUX_KIND;
 ghost use mathlib.Core.Path.{_≡_};
 ghost use mathlib.Core.List.{map};
 ghost use Prim.Native.Nat.{ℕ, _+_, _/_, _≤_, _<_, max};
@@ -79,7 +83,7 @@ fn put_gates(net: &[u32], depths: &mut [u32], inputs: usize, gates: usize)
 {
     let mut g: usize = 0;
     while g < gates {
-        let at = 3 + 4 * g;
+        let at = HEADER_WORDS + GATE_STRIDE * g;
         let a = net[at + 1];
         let b = net[at + 2];
         let c = net[at + 3];
@@ -169,7 +173,7 @@ fn measure(net: &[u32], depths: &mut [u32]) -> Measured
     let o = net[2] as usize;
     put_depths(net, depths, i, g);
     let top = largest(depths, i + g);
-    let deep = largest_output(net, depths, 3 + 4 * g, o);
+    let deep = largest_output(net, depths, HEADER_WORDS + GATE_STRIDE * g, o);
     Measured {
         answer: Answer::Done,
         depth: deep,
@@ -219,10 +223,10 @@ fn tally(
     let mut n: u32 = 0;
     let mut g: usize = 0;
     while g < gates {
-        let kind = net[3 + 4 * g];
+        let kind = net[HEADER_WORDS + GATE_STRIDE * g];
         let level = depths[inputs + g] as usize;
-        let a = one_if(kind, 4);
-        let m = one_if(kind, 5);
+        let a = one_if(kind, AND_KIND);
+        let m = one_if(kind, MUX_KIND);
         ands[level] = ands[level] + a;
         muxes[level] = muxes[level] + m;
         n = n + a + m;

@@ -1,5 +1,7 @@
 // The check of rule 9, in document 01's order: fewer than three words; the counts; the length; then the
 // words in order. `list` is the list that the netlist is of the call that judges it.
+use crate::GATE_STRIDE;
+use crate::HEADER_WORDS;
 use crate::gate::Taken;
 use answer::Answer;
 ghost use mathlib.Core.Path.{_≡_};
@@ -53,8 +55,7 @@ fn gate(net: &[u32], inputs: u32, g: u32, list: u32) -> Answer
     requires { ⌜ (inputs ≤ inputLimit) × (g < gateLimit) × (gatePlace g + 4 ≤ length (now net)) ⌝ }
     ensures { λ r. ⌜ r ≡ gateAnswer list (now (net .entry)) inputs g ⌝ }
 {
-    let place = 3 + 4 * g;
-    let at = place as usize;
+    let at = HEADER_WORDS + GATE_STRIDE * (g as usize);
     words(
         net[at],
         net[at + 1],
@@ -62,7 +63,7 @@ fn gate(net: &[u32], inputs: u32, g: u32, list: u32) -> Answer
         net[at + 3],
         inputs + g,
         list,
-        place,
+        at as u32,
     )
 }
 
@@ -85,7 +86,7 @@ fn outputs(net: &[u32], inputs: u32, gates: u32, count: u32, list: u32) -> Answe
     requires { ⌜ (inputs ≤ inputLimit) × (gates ≤ gateLimit) × (gatePlace gates + count ≤ length (now net)) ⌝ }
     ensures { λ r. ⌜ r ≡ each count (outputAnswer list (now (net .entry)) inputs gates) ⌝ }
 {
-    let start = 3 + 4 * (gates as usize);
+    let start = HEADER_WORDS + GATE_STRIDE * (gates as usize);
     let wires = inputs + gates;
     let mut o: u32 = 0;
     while o < count {
@@ -153,7 +154,7 @@ pub fn check_as(net: &[u32], list: u32) -> Answer
         list,
         place: len,
     };
-    if len < crate::HEADER_WORDS {
+    if len < HEADER_WORDS {
         return broken;
     }
     let i = net[0];
@@ -163,7 +164,7 @@ pub fn check_as(net: &[u32], list: u32) -> Answer
     let Answer::Done = r else {
         return r;
     };
-    let whole = 3 + 4 * (g as usize) + (o as usize);
+    let whole = HEADER_WORDS + GATE_STRIDE * (g as usize) + (o as usize);
     if len != whole {
         return broken;
     }
