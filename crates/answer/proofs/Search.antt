@@ -11,7 +11,7 @@ use borrow.Author.Tests.{ltb-false, lt-ltb, le-ltb}
 use Rattle.answer.specs.declared.Answer.the-variants.{Done, Refused}
 use Rattle.answer.specs.Answers.{refuse}
 use Rattle.answer.specs.Choose.{choose}
-use Rattle.answer.specs.First.{firstFrom, first, Scan}
+use Rattle.answer.specs.First.{firstFrom, first, some, Scan}
 use Rattle.answer.specs.Bits.{aboveOne, bitsAnswer}
 use Rattle.answer.proofs.Rows.{refuse-done, refuse-not}
 
@@ -41,6 +41,13 @@ module _ (p : ℕ → Bool) where
   pub scan-end : (n i : ℕ) → Scan p n i → n ≤ i → i ≡ first p n
   scan-end n i v l = sym (end-step i (n - i) (omega arith)) ∙ v .1
 
+  -- For a search within a search: it holds somewhere, or nowhere.
+  pub some-hit : (n i : ℕ) → Scan p n i → i < n → p i ≡ true → some p n ≡ true
+  some-hit n i v l h = lt-ltb (first p n) n (omega (arith, scan-hit n i v l h))
+
+  pub some-end : (n i : ℕ) → Scan p n i → n ≤ i → some p n ≡ false
+  some-end n i v l = le-ltb (first p n) n (omega (arith, scan-end n i v l))
+
   -- The test fails at each place before the first.
   before-step : (b : Bool) (i x k : ℕ) → p i ≡ b → (i + 1 ≤ k → k < x → p k ≡ false) → i ≤ k → k < choose b i x → p k ≡ false
   before-step true i x k e f h l = absurd (not-le-of-lt l h)
@@ -66,6 +73,12 @@ module _ (p : ℕ → Bool) where
 
   pub first-none : (n : ℕ) → ((k : ℕ) → k < n → p k ≡ false) → first p n ≡ n
   first-none n h = omega (arith, from-none 0 n (λ k l. h k (omega arith)))
+
+  pub none-below : (n k : ℕ) → some p n ≡ false → k < n → p k ≡ false
+  none-below n k h l = first-before n k (omega (arith, ltb-false (first p n) n h))
+
+  pub some-none : (n : ℕ) → ((k : ℕ) → k < n → p k ≡ false) → some p n ≡ false
+  some-none n h = le-ltb (first p n) n (omega (arith, first-none n h))
 
 -- A list judged for 4 is done exactly if each of its bytes is a bit.
 pub bits-done : (l : ℕ) (s : List ℕ) → bitsAnswer l s ≡ Done → (k : ℕ) → k < length s → getD s k 0 ≤ 1
