@@ -1,0 +1,4 @@
+pub mod Filter
+pub mod Papers
+pub mod Instances
+pub mod Cases
