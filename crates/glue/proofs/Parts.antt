@@ -7,7 +7,7 @@ use borrow.Rule.Slice.PartMut.{putMid, post-is}
 use lib.ListN.{length, take, drop, length-map, length-drop, length-take}
 use lib.Seq.{sets, drop-length, take-all, getD-drop, take-at}
 use Rattle.answer.specs.Fronts.{over}
-use Rattle.answer.proofs.Over.{length-over, over-sets, over-tail}
+use Rattle.answer.proofs.Over.{length-over, over-sets, over-tail, tail-is}
 use Rattle.netlist.specs.Gates.{gateWords}
 use Rattle.netlist.specs.Net.{wiresOf}
 use Rattle.netlist.specs.Words.{inputsOf, gatesOf, outputsOf, gatePlace, gatesWords, gateAt, gatesAt, netOf, words}
@@ -24,9 +24,6 @@ use Rattle.glue.specs.Parts.{Small, SmallAll, secondWords, Second, Fit}
 pub put-tail : (a : ℕ) (xs ys : List ℕ) → a ≤ length xs → putMid a (length xs - a) xs ys ≡ take a xs ++ ys
 put-tail a xs ys h = rw (post-is a (length xs) xs h, drop-length xs, append-nil ys)
 
-pub tail-is : (a : ℕ) (xs : List ℕ) → take (length xs - a) (drop a xs) ≡ drop a xs
-tail-is a xs = take-all (length xs - a) (drop a xs) (omega (arith, length-drop a xs))
-
 -- a part that was lent behind a front, and written from its start
 wrote-tail : (front w old : List ℕ) (n : ℕ) {out part : List ℕ} → length front ≡ n → n ≤ length old → out ≡ over front old → length out ≡ length old
     → part ≡ over w (take (length out - n) (drop n out)) → putMid n (length out - n) out part ≡ over (front ++ w) old
@@ -36,10 +33,7 @@ wrote-tail front w old n {out} {part} e h o k p =
     ∙ ap (λ (t : List ℕ). take n t ++ over w (drop n t)) o
     ∙ over-tail front w old n e
 
--- how much room the part from n on has
-pub tail-room : (n : ℕ) (out : List ℕ) → length (take (length out - n) (drop n out)) ≡ length out - n
-tail-room n out = ap length (tail-is n out) ∙ length-drop n out
-
+-- a front keeps the list's length
 pub kept-length : (front old : List ℕ) {out : List ℕ} → out ≡ over front old → length front ≤ length old → length out ≡ length old
 kept-length front old e h = ap length e ∙ length-over front old h
 

@@ -1,9 +1,10 @@
+use Rattle.answer.proofs.Over.{tail-is, tail-room}
 use Prim.Native.Nat.{_*_}
 use mathlib.Core.Path.{_≡_}
 use native.Mathlib.Omega.{arith}
 use lib.ListN.{length}
 use Rattle.netlist.specs.Words.{gatesOf, gatePlace}
-use Rattle.glue.proofs.Parts.{tail-is, tail-room, kept-length, written-length, small-outs, second-written}
+use Rattle.glue.proofs.Parts.{kept-length, written-length, small-outs, second-written}
 use borrow.Author.Needs.{needs}
 use Rattle.glue.proofs.put_second.Statement.{statement}
 use Rattle.glue.proofs.put_second.Tie as tie

@@ -4,9 +4,9 @@ use native.Mathlib.Omega.{arith}
 use lib.ListN.{length}
 use borrow.Rule.Slice.PartMut.{putMid}
 use Rattle.answer.specs.Fronts.{over}
-use Rattle.answer.proofs.Over.{length-over}
+use Rattle.answer.proofs.Over.{length-over, tail-room}
 use Rattle.netlist.specs.Words.{gatesOf, gatePlace}
-use Rattle.glue.proofs.Parts.{tail-room, firstWords, firstWords-length, first-written, all-written}
+use Rattle.glue.proofs.Parts.{firstWords, firstWords-length, first-written, all-written}
 use borrow.Author.Needs.{needs}
 use Rattle.glue.proofs.write.Statement.{statement}
 use Rattle.glue.proofs.write.Tie as tie
