@@ -1,2 +1,3 @@
 pub mod Sums
 pub mod Tab
+pub mod Published
