@@ -11,6 +11,7 @@ use Rattle.evaluate.specs.Evaluate.{Evaluated}
 use Rattle.meter.specs.declared.Metered.{Metered}
 use Rattle.meter.specs.Meter.{ifDone, MeteredAs}
 use Rattle.glue.specs.Glue.{GluedAs}
+use Rattle.choice.specs.Choice.{Chosen}
 
 -- two lists that were left by equal answers
 same-left : {r s : Answer} (front old : List ℕ) {x y : List ℕ} → r ≡ s → x ≡ left r front old → y ≡ left s front old → x ≡ y
@@ -44,3 +45,8 @@ meter-decides net ds ands muxes {r} {s} x y =
   where
     metered-eq : (r s : Metered) → r .answer ≡ s .answer → r .depth ≡ s .depth → r .multiplications ≡ s .multiplications → r ≡ s
     metered-eq r s p q t i = record { answer = p i; depth = q i; multiplications = t i }
+
+pub choose-decides : (inst : ℕ) (draws row : List ℕ) {r s : Answer} {v w : List ℕ} → Chosen inst draws row r v → Chosen inst draws row s w → (r ≡ s) × (v ≡ w)
+choose-decides inst draws row x y =
+    let e = x .answered ∙ sym (y .answered) in
+    (e, same-left _ _ e (x .written) (y .written))

@@ -8,6 +8,7 @@ use Rattle.evaluate.specs.Evaluate.{Evaluated}
 use Rattle.meter.specs.declared.Metered.{Metered}
 use Rattle.meter.specs.Meter.{MeteredAs}
 use Rattle.glue.specs.Glue.{GluedAs}
+use Rattle.choice.specs.Choice.{Chosen}
 use Rattle.probe.specs.declared.Reply.{Reply}
 use Rattle.probe.specs.declared.Metering.{Metering}
 
@@ -36,4 +37,9 @@ pub record MeterReply (net ds ands muxes : List ℕ) (r : Metering) (ds′ ands�
 pub record GlueReply (a b out : List ℕ) (r : Reply) (out′ : List ℕ) : Type 0 where
   pub answer : Answer
   pub outcome : GluedAs a b out answer out′
+  pub told : r ≡ replyOf answer
+
+pub record ChooseReply (inst : ℕ) (draws row : List ℕ) (r : Reply) (row′ : List ℕ) : Type 0 where
+  pub answer : Answer
+  pub outcome : Chosen inst draws row answer row′
   pub told : r ≡ replyOf answer

@@ -4,7 +4,7 @@ use answer::Answer;
 ghost use mathlib.Core.Path.{_≡_};
 ghost use lib.ListN.{length};
 ghost use Rattle.netlist.specs.Check.{netAnswer};
-ghost use Rattle.probe.specs.Replies.{replyOf, EvaluateReply, MeterReply, GlueReply};
+ghost use Rattle.probe.specs.Replies.{replyOf, EvaluateReply, MeterReply, GlueReply, ChooseReply};
 
 #[repr(C)]
 pub struct Reply {
@@ -88,4 +88,11 @@ pub extern "C" fn probe_glue(first: &[u32], second: &[u32], out: &mut [u32]) -> 
     ensures { λ r. ⌜ GlueReply (now (first .entry)) (now (second .entry)) (now (out .entry)) r (now (out .exit)) ⌝ }
 {
     told(glue::glue(first, second, out))
+}
+
+#[no_mangle]
+pub extern "C" fn probe_choose(instance: u32, draws: &[u32], row: &mut [u32]) -> Reply
+    ensures { λ r. ⌜ ChooseReply instance (now (draws .entry)) (now (row .entry)) r (now (row .exit)) ⌝ }
+{
+    told(choice::choose(instance, draws, row))
 }
