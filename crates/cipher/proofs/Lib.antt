@@ -1,1 +1,3 @@
 pub mod Variables
+pub mod Accepted
+pub mod Sums

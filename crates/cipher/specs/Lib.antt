@@ -1,2 +1,4 @@
 pub mod Judging
 pub mod Rows
+pub mod Cipher
+pub mod Lent

@@ -1,0 +1,78 @@
+-- What Done tells of a cipher call.
+use Prim.Native.Nat.{ℕ, _+_, _*_, _<_, _≤_}
+use mathlib.Core.Path.{_≡_, refl, ap, sym, _∙_}
+use mathlib.Core.List.{List}
+use native.Mathlib.Omega.{arith}
+use lib.ListN.{length, getD}
+use borrow.Author.Tests.{ne-eqb}
+use Rattle.answer.specs.declared.Answer.the-variants.{Done}
+use Rattle.answer.proofs.Rows.{first-done, then-done, one-of, two-of, three-of}
+use Rattle.answer.proofs.Search.{bits-done}
+use Rattle.instance.specs.Table.{keyBits, rowBits, whiteBits}
+use Rattle.instance.proofs.Judged.{row-small, numbers-done, length-done, room-done, rows-done}
+use Rattle.cipher.specs.Judging.{wiringLengths, wiringAnswer, keystreamAnswer, encipherAnswer}
+use Rattle.cipher.specs.Rows.{Rows}
+use Rattle.cipher.specs.Lent.{Lent}
+
+pub keystream-lent : (inst m : ℕ) (key idx wh : List ℕ) (n : ℕ) → keystreamAnswer inst m key idx wh n ≡ Done → Lent inst m key idx wh × (m ≤ n)
+unfolding keystreamAnswer wiringLengths wiringAnswer
+keystream-lent inst m key idx wh n e =
+    let e1 = then-done _ _ e in
+    let e2 = then-done _ _ e1 in
+    let w = then-done _ _ e2 in
+    let k = numbers-done inst m (first-done _ _ e) in
+    let l = first-done _ _ e1 in
+    let b = first-done _ _ e2 in (
+      record {
+        least = k .0 .0;
+        most = k .0 .1;
+        few = k .1 .1;
+        keyLength = length-done 1 _ _ (one-of _ _ _ l);
+        indices = length-done 2 _ _ (two-of _ _ _ l);
+        whitening = length-done 3 _ _ (three-of _ _ _ l);
+        keyBit = bits-done 1 key (first-done _ _ b);
+        whiteBit = bits-done 3 wh (then-done _ _ b);
+        below = rows-done 2 _ _ idx (one-of _ _ _ w);
+      },
+      room-done 4 n m (three-of _ _ _ w),
+    )
+
+pub encipher-lent : (inst m : ℕ) (key rec idx wh : List ℕ) (n : ℕ) → encipherAnswer inst m key rec idx wh n ≡ Done
+    → Lent inst m key idx wh × (m ≤ n) × (length rec ≡ m) × ((k : ℕ) → k < length rec → getD rec k 0 ≤ 1)
+unfolding encipherAnswer wiringLengths wiringAnswer
+encipher-lent inst m key rec idx wh n e =
+    let e1 = then-done _ _ e in
+    let e2 = then-done _ _ e1 in
+    let w = then-done _ _ e2 in
+    let k = numbers-done inst m (first-done _ _ e) in
+    let l = first-done _ _ e1 in
+    let l1 = then-done _ _ l in
+    let b = first-done _ _ e2 in (
+      record {
+        least = k .0 .0;
+        most = k .0 .1;
+        few = k .1 .1;
+        keyLength = length-done 1 _ _ (first-done _ _ l);
+        indices = length-done 3 _ _ (two-of _ _ _ l1);
+        whitening = length-done 4 _ _ (three-of _ _ _ l1);
+        keyBit = bits-done 1 key (one-of _ _ _ b);
+        whiteBit = bits-done 4 wh (three-of _ _ _ b);
+        below = rows-done 3 _ _ idx (one-of _ _ _ w);
+      },
+      room-done 5 n m (three-of _ _ _ w),
+      length-done 2 _ _ (one-of _ _ _ l1),
+      bits-done 2 rec (two-of _ _ _ b),
+    )
+
+-- the rows of instances 1 to 5
+pub rows-lent : (inst m : ℕ) (key idx wh : List ℕ) → Lent inst m key idx wh → (inst ≡ 6 → ⊥) → Rows inst key idx wh 1394 m
+unfolding whiteBits
+rows-lent inst m key idx wh s h =
+    let w : length wh ≡ m * rowBits inst = s .whitening ∙ rw (ne-eqb inst 6 h) in
+    record {
+      fits = row-small inst;
+      few = s .few;
+      indices = omega (arith, s .indices);
+      whitening = omega arith;
+      below = λ j l. omega (arith, s .below j (omega (arith, s .indices)), s .keyLength);
+    }

@@ -1,0 +1,36 @@
+-- Keystream and enciphering of the six instances.
+use Prim.Native.Nat.{ℕ, _+_, _%_}
+use mathlib.Core.Path.{_≡_}
+use mathlib.Core.List.{List, [], _∷_}
+use lib.ListN.{length}
+use lib.Dec.{eqb}
+use Rattle.answer.specs.declared.Answer.{Answer}
+use Rattle.answer.specs.Choose.{choose}
+use Rattle.answer.specs.Fronts.{left}
+use Rattle.filter.specs.Filter.{tab}
+use Rattle.kreyvium.specs.Kreyvium.{streamOf}
+use Rattle.cipher.specs.Judging.{keystreamAnswer, encipherAnswer}
+use Rattle.cipher.specs.Rows.{streamBit}
+
+-- the m keystream bits; Kreyvium takes one IV for the whole record
+unfoldable pub keystreamOf : ℕ → ℕ → List ℕ → List ℕ → List ℕ → List ℕ
+keystreamOf inst m key idx wh = choose (eqb inst 6) (streamOf key wh m) (tab (streamBit inst key idx wh) m)
+
+-- sums of bits, place by place
+unfoldable pub added : List ℕ → List ℕ → List ℕ
+added [] ks = []
+added (x ∷ xs) [] = []
+added (x ∷ xs) (k ∷ ks) = (x + k) % 2 ∷ added xs ks
+
+-- a record and its keystream; deciphering does the same
+unfoldable pub encipherOf : ℕ → ℕ → List ℕ → List ℕ → List ℕ → List ℕ → List ℕ
+encipherOf inst m key rec idx wh = added rec (keystreamOf inst m key idx wh)
+
+-- what a call answers and leaves in the result
+pub record Streamed (inst m : ℕ) (key idx wh out : List ℕ) (r : Answer) (out′ : List ℕ) : Type 0 where
+  pub answered : r ≡ keystreamAnswer inst m key idx wh (length out)
+  pub written : out′ ≡ left r (keystreamOf inst m key idx wh) out
+
+pub record Ciphered (inst m : ℕ) (key rec idx wh out : List ℕ) (r : Answer) (out′ : List ℕ) : Type 0 where
+  pub answered : r ≡ encipherAnswer inst m key rec idx wh (length out)
+  pub written : out′ ≡ left r (encipherOf inst m key rec idx wh) out
