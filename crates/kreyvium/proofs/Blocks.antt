@@ -1,0 +1,211 @@
+-- 64 rounds at one-round: the words that enter are what the rounds would bring in one by one.
+use mathlib.Core.Path.{_≡_, refl, ap, sym, _∙_}
+use mathlib.Core.List.{List, [], _∷_, _++_}
+use Prim.Native.Nat.{ℕ, zero, suc, _+_, _*_, _-_, _/_, _%_, _^_, _≤_, _<_}
+use native.Mathlib.Omega.{arith}
+use lib.ListN.{getD}
+use Rattle.kreyvium.specs.declared.State.{State}
+use Rattle.kreyvium.specs.declared.Entry.{Entry}
+use Rattle.kreyvium.specs.Kreyvium.{Registers, k0, v0, outOf, t1, t2, t3, push, moved, roundOf, rounds, stream}
+use Rattle.kreyvium.specs.Words.{bit, tops, reg, stateOf}
+use Rattle.kreyvium.specs.Early.{early, Right}
+use Rattle.kreyvium.proofs.Streams.{registers-eq, rounds-last, stream-last}
+use Rattle.kreyvium.proofs.Windows.{leaves, later-now, got, got-none, got-more, got-first, got-all, got-tap}
+
+-- ---- the four sums of a round, of what they add
+pub sum-out : {u u′ v v′ w w′ x x′ y y′ z z′ k k′ : ℕ} → u ≡ u′ → v ≡ v′ → w ≡ w′ → x ≡ x′ → y ≡ y′ → z ≡ z′ → k ≡ k′
+    → (u + v + w + x + y + z + k) % 2 ≡ (u′ + v′ + w′ + x′ + y′ + z′ + k′) % 2
+sum-out hu hv hw hx hy hz hk = cc
+
+pub sum-one : {x x′ y y′ p p′ q q′ z z′ v v′ : ℕ} → x ≡ x′ → y ≡ y′ → p ≡ p′ → q ≡ q′ → z ≡ z′ → v ≡ v′
+    → (x + y + p * q + z + v) % 2 ≡ (x′ + y′ + p′ * q′ + z′ + v′) % 2
+sum-one hx hy hp hq hz hv = cc
+
+pub sum-two : {x x′ y y′ p p′ q q′ z z′ : ℕ} → x ≡ x′ → y ≡ y′ → p ≡ p′ → q ≡ q′ → z ≡ z′
+    → (x + y + p * q + z) % 2 ≡ (x′ + y′ + p′ * q′ + z′) % 2
+sum-two hx hy hp hq hz = cc
+
+pub sum-three : {x x′ y y′ k k′ p p′ q q′ z z′ : ℕ} → x ≡ x′ → y ≡ y′ → k ≡ k′ → p ≡ p′ → q ≡ q′ → z ≡ z′
+    → (x + y + k + p * q + z) % 2 ≡ (x′ + y′ + k′ + p′ * q′ + z′) % 2
+sum-three hx hy hk hp hq hz = cc
+
+-- ---- a round reads nothing below place 63
+record Same (r s : Registers ℕ) : Type 0 where
+  a : (p : ℕ) → 63 ≤ p → p < 93 → getD (r .a) p 0 ≡ getD (s .a) p 0
+  b : (p : ℕ) → 63 ≤ p → p < 84 → getD (r .b) p 0 ≡ getD (s .b) p 0
+  c : (p : ℕ) → 63 ≤ p → p < 111 → getD (r .c) p 0 ≡ getD (s .c) p 0
+  k : (p : ℕ) → 63 ≤ p → p < 128 → getD (r .k) p 0 ≡ getD (s .k) p 0
+  v : (p : ℕ) → 63 ≤ p → p < 128 → getD (r .v) p 0 ≡ getD (s .v) p 0
+
+module _ (r s : Registers ℕ) (same : Same r s) where
+  same-out : outOf r ≡ outOf s
+  unfolding outOf
+  same-out =
+      sum-out
+      (same .a 65 (omega arith) (omega arith))
+      (same .a 92 (omega arith) (omega arith))
+      (same .b 68 (omega arith) (omega arith))
+      (same .b 83 (omega arith) (omega arith))
+      (same .c 65 (omega arith) (omega arith))
+      (same .c 110 (omega arith) (omega arith))
+      (same .k 127 (omega arith) (omega arith))
+
+  same-one : t1 r ≡ t1 s
+  unfolding t1
+  same-one =
+      sum-one
+      (same .a 65 (omega arith) (omega arith))
+      (same .a 92 (omega arith) (omega arith))
+      (same .a 90 (omega arith) (omega arith))
+      (same .a 91 (omega arith) (omega arith))
+      (same .b 77 (omega arith) (omega arith))
+      (same .v 127 (omega arith) (omega arith))
+
+  same-two : t2 r ≡ t2 s
+  unfolding t2
+  same-two =
+      sum-two
+      (same .b 68 (omega arith) (omega arith))
+      (same .b 83 (omega arith) (omega arith))
+      (same .b 81 (omega arith) (omega arith))
+      (same .b 82 (omega arith) (omega arith))
+      (same .c 86 (omega arith) (omega arith))
+
+  same-three : t3 r ≡ t3 s
+  unfolding t3
+  same-three =
+      sum-three
+      (same .c 65 (omega arith) (omega arith))
+      (same .c 110 (omega arith) (omega arith))
+      (same .k 127 (omega arith) (omega arith))
+      (same .c 108 (omega arith) (omega arith))
+      (same .c 109 (omega arith) (omega arith))
+      (same .a 68 (omega arith) (omega arith))
+
+-- ---- K*0 and IV*0 of the next 64 rounds are the bits of the upper words
+module _ (s : State) (i : ℕ) (h : i < 64) where
+  pub early-key : k0 0 (early s i) ≡ bit (s .k .hi) i
+  unfolding early
+  early-key = leaves i (s .k) h
+
+  pub early-iv : v0 0 (early s i) ≡ bit (s .v .hi) i
+  unfolding early
+  early-iv = leaves i (s .v) h
+
+-- ---- the coming round
+early-now : (s : State) → Same (early s 63) (stateOf s)
+unfolding early stateOf
+early-now s = record {
+  a = λ p l u. later-now p _ l;
+  b = λ p l u. later-now p _ l;
+  c = λ p l u. later-now p _ l;
+  k = λ p l u. later-now p _ l;
+  v = λ p l u. later-now p _ l;
+}
+
+pub first-out : (s : State) (z : ℕ) → z < 2 ^ 64 → bit z 63 ≡ outOf (early s 63) → z / 2 ^ 63 ≡ outOf (stateOf s)
+unfolding bit
+first-out s z h e =
+    let q : z / 2 ^ 63 ≡ z / 2 ^ 63 % 2 = omega arith in
+    q ∙ e ∙ same-out _ _ (early-now s)
+
+-- ---- n rounds, for n up to 64
+module _ (s : State) (e : Entry) where
+  -- the registers 64 - i rounds on
+  unfoldable pub at : ℕ → Registers ℕ
+  at i = record {
+    a = got i 93 (e .a) (s .s .a);
+    b = got i 84 (e .b) (s .s .b);
+    c = got i 111 (e .c) (s .s .c);
+    k = got i 128 (s .k .hi) (s .k);
+    v = got i 128 (s .v .hi) (s .v);
+  }
+
+  at-none : stateOf s ≡ at 64
+  unfolding at stateOf
+  at-none =
+      registers-eq
+      (got-none _ _ _ (omega arith))
+      (got-none _ _ _ (omega arith))
+      (got-none _ _ _ (omega arith))
+      (got-none _ _ _ (omega arith))
+      (got-none _ _ _ (omega arith))
+
+  at-same : (i : ℕ) → i < 64 → Same (at (suc i)) (early s i)
+  unfolding at early
+  at-same i h = record {
+    a = λ p l u. got-tap i 93 (e .a) p (s .s .a) h (omega arith) l u;
+    b = λ p l u. got-tap i 84 (e .b) p (s .s .b) h (omega arith) l u;
+    c = λ p l u. got-tap i 111 (e .c) p (s .s .c) h (omega arith) l u;
+    k = λ p l u. got-tap i 128 (s .k .hi) p (s .k) h (omega arith) l u;
+    v = λ p l u. got-tap i 128 (s .v .hi) p (s .v) h (omega arith) l u;
+  }
+
+  module _ (r : Right s e) where
+    at-next : (i : ℕ) → i < 64 → roundOf (at (suc i)) ≡ at i
+    unfolding roundOf moved at
+    at-next i h =
+        let same = at-same i h in
+        registers-eq
+        (got-more i 93 (e .a) _ (s .s .a) h (omega arith) (same-three _ _ same ∙ sym (r .a i h)))
+        (got-more i 84 (e .b) _ (s .s .b) h (omega arith) (same-one _ _ same ∙ sym (r .b i h)))
+        (got-more i 111 (e .c) _ (s .s .c) h (omega arith) (same-two _ _ same ∙ sym (r .c i h)))
+        (got-more i 128 (s .k .hi) _ (s .k) h (omega arith) (same .k 127 (omega arith) (omega arith) ∙ early-key s i h))
+        (got-more i 128 (s .v .hi) _ (s .v) h (omega arith) (same .v 127 (omega arith) (omega arith) ∙ early-iv s i h))
+
+    at-rounds : (n i : ℕ) → n + i ≡ 64 → rounds n (stateOf s) ≡ at i
+    unfolding rounds
+    at-rounds zero i q = let f : 64 ≡ i = omega arith in at-none ∙ ap at f
+    at-rounds (suc n) i q =
+        rounds-last n (stateOf s) ∙ ap roundOf (at-rounds n (suc i) (omega arith)) ∙ at-next i (omega arith)
+
+    -- 64 rounds
+    pub block-next : stateOf (record {
+      s = record { a = record { lo = e .a; hi = s .s .a .lo }; b = record { lo = e .b; hi = s .s .b .lo }; c = record { lo = e .c; hi = s .s .c .lo } };
+      k = record { lo = s .k .hi; hi = s .k .lo };
+      v = record { lo = s .v .hi; hi = s .v .lo };
+    }) ≡ rounds 64 (stateOf s)
+    unfolding at stateOf
+    block-next =
+        sym
+        (at-rounds 64 0 refl
+        ∙ registers-eq
+        (got-all 93 (e .a) (s .s .a) (omega arith))
+        (got-all 84 (e .b) (s .s .b) (omega arith))
+        (got-all 111 (e .c) (s .s .c) (omega arith))
+        (got-all 128 (s .k .hi) (s .k) (omega arith))
+        (got-all 128 (s .v .hi) (s .v) (omega arith)))
+
+    out-at : (n : ℕ) → n < 64 → bit (e .z) (63 - n) ≡ outOf (rounds n (stateOf s))
+    out-at n h =
+        let i = 63 - n in
+        let l : i < 64 = omega arith in
+        r .z i l ∙ sym (same-out _ _ (at-same i l)) ∙ ap outOf (sym (at-rounds n (suc i) (omega arith)))
+
+    -- what comes out of them
+    pub block-out : (n : ℕ) → n ≤ 64 → tops n (e .z) ≡ stream n (stateOf s)
+    unfolding tops stream
+    block-out zero h = refl
+    block-out (suc n) h =
+        ap (λ (b : ℕ). tops n (e .z) ++ (b ∷ [])) (out-at n (omega arith))
+        ∙ ap (λ (l : List ℕ). l ++ (outOf (rounds n (stateOf s)) ∷ [])) (block-out n (omega arith))
+        ∙ sym (stream-last n (stateOf s))
+
+    -- one round: of each word that enters, the bit at place 63
+    pub one-round : _≡_ {A = Registers ℕ} (record {
+      a = push (bit (e .a) 63) (reg 93 (s .s .a));
+      b = push (bit (e .b) 63) (reg 84 (s .s .b));
+      c = push (bit (e .c) 63) (reg 111 (s .s .c));
+      k = push (bit (s .k .hi) 63) (reg 128 (s .k));
+      v = push (bit (s .v .hi) 63) (reg 128 (s .v));
+    }) (roundOf (stateOf s))
+    unfolding at
+    one-round =
+        registers-eq
+        (got-first 93 (e .a) (s .s .a) (omega arith))
+        (got-first 84 (e .b) (s .s .b) (omega arith))
+        (got-first 111 (e .c) (s .s .c) (omega arith))
+        (got-first 128 (s .k .hi) (s .k) (omega arith))
+        (got-first 128 (s .v .hi) (s .v) (omega arith))
+        ∙ sym (at-next 63 (omega arith))
+        ∙ ap roundOf (sym at-none)

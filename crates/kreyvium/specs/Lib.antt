@@ -1,0 +1,3 @@
+pub mod Kreyvium
+pub mod Words
+pub mod Early
