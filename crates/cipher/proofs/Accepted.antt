@@ -1,17 +1,20 @@
 -- What Done tells of a cipher call.
-use Prim.Native.Nat.{ℕ, _+_, _*_, _<_, _≤_}
-use mathlib.Core.Path.{_≡_, refl, ap, sym, _∙_}
-use mathlib.Core.List.{List}
+use Prim.Native.Nat.{ℕ, zero, suc, _*_, _<_, _≤_}
+use mathlib.Core.Path.{_≡_, refl, ap, _∙_}
+use mathlib.Core.List.{List, [], _∷_}
 use native.Mathlib.Omega.{arith}
 use lib.ListN.{length, getD}
 use borrow.Author.Tests.{ne-eqb}
 use Rattle.answer.specs.declared.Answer.the-variants.{Done}
 use Rattle.answer.proofs.Rows.{first-done, then-done, one-of, two-of, three-of}
 use Rattle.answer.proofs.Search.{bits-done}
-use Rattle.instance.specs.Table.{keyBits, rowBits, whiteBits}
+use Rattle.instance.specs.Table.{sizesOf, keyBits, rowBits, whiteBits}
 use Rattle.instance.proofs.Judged.{row-small, numbers-done, length-done, room-done, rows-done}
 use Rattle.cipher.specs.Judging.{wiringLengths, wiringAnswer, keystreamAnswer, encipherAnswer}
-use Rattle.cipher.specs.Rows.{Rows}
+use Rattle.cipher.specs.Rows.{Rows, streamBit}
+use Rattle.cipher.specs.Cipher.{keystreamOf}
+use Rattle.filter.specs.Filter.{tab}
+use Rattle.kreyvium.specs.Kreyvium.{streamOf}
 use Rattle.cipher.specs.Lent.{Lent}
 
 pub keystream-lent : (inst m : ℕ) (key idx wh : List ℕ) (n : ℕ) → keystreamAnswer inst m key idx wh n ≡ Done → Lent inst m key idx wh × (m ≤ n)
@@ -76,3 +79,24 @@ rows-lent inst m key idx wh s h =
       whitening = omega arith;
       below = λ j l. omega (arith, s .below j (omega (arith, s .indices)), s .keyLength);
     }
+
+-- the bits of an accepted list; nothing stands past its end
+pub bits-within : (l : List ℕ) → ((k : ℕ) → k < length l → getD l k 0 ≤ 1) → (i : ℕ) → getD l i 0 ≤ 1
+bits-within [] h i = omega arith
+bits-within (b ∷ l) h zero = h 0 (omega arith)
+bits-within (b ∷ l) h (suc i) = bits-within l (λ k e. h (suc k) (omega arith)) i
+
+-- Kreyvium's key and IV
+pub stream-lent : (inst m : ℕ) (key idx wh : List ℕ) → Lent inst m key idx wh → inst ≡ 6
+    → (m ≤ 64) × (length key ≡ 128) × (length wh ≡ 128) × ((i : ℕ) → getD key i 0 ≤ 1) × ((i : ℕ) → getD wh i 0 ≤ 1)
+unfolding sizesOf whiteBits
+stream-lent inst m key idx wh s e = (s .few, s .keyLength ∙ ap keyBits e, s .whitening ∙ ap (λ (i : ℕ). whiteBits i m) e, bits-within key (s .keyBit), bits-within wh (s .whiteBit))
+
+-- which of the two keystreams it is
+pub stream-of : (inst m : ℕ) (key idx wh : List ℕ) → inst ≡ 6 → streamOf key wh m ≡ keystreamOf inst m key idx wh
+unfolding keystreamOf
+stream-of inst m key idx wh e = rw e refl
+
+pub rows-of : (inst m : ℕ) (key idx wh : List ℕ) → (inst ≡ 6 → ⊥) → tab (streamBit inst key idx wh) m ≡ keystreamOf inst m key idx wh
+unfolding keystreamOf
+rows-of inst m key idx wh h = rw (ne-eqb inst 6 h) refl

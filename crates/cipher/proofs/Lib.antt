@@ -1,3 +1,5 @@
 pub mod Variables
 pub mod Accepted
 pub mod Sums
+pub mod Block
+pub mod Written

@@ -2,12 +2,27 @@
 // After judging, no branch and no index depends on a bit of the key or of the record.
 mod judge;
 mod rows;
+mod stream;
 
+use answer::Answer;
 ghost use mathlib.Core.Path.{_≡_};
 ghost use Prim.Native.Nat.{_≤_};
 ghost use lib.ListN.{length, take};
 ghost use Rattle.answer.specs.Fronts.{over};
-ghost use Rattle.cipher.specs.Cipher.{added};
+ghost use Rattle.cipher.specs.Lent.{Lent};
+ghost use Rattle.cipher.specs.Cipher.{keystreamOf, added, Streamed, Ciphered};
+
+// The keystream of an accepted wiring, one bit for each place of out.
+fn put_stream(instance: u32, key: &[u8], indices: &[u32], whitening: &[u8], out: &mut [u8])
+    requires { ⌜ Lent instance (length (now out)) (now key) (now indices) (now whitening) ⌝ }
+    ensures { λ r. ⌜ now (out .exit) ≡ keystreamOf instance (length (now (out .entry))) (now (key .entry)) (now (indices .entry)) (now (whitening .entry)) ⌝ }
+{
+    if instance == 6 {
+        stream::put(key, whitening, out);
+    } else {
+        rows::put_rows(instance, key, indices, whitening, out);
+    }
+}
 
 // Adds a record to the keystream that stands at the front of out.
 fn add(record: &[u8], out: &mut [u8])
@@ -19,4 +34,61 @@ fn add(record: &[u8], out: &mut [u8])
         out[i] = (record[i] % 2 + out[i] % 2) % 2;
         i += 1;
     }
+}
+
+// The first m keystream bits. whitening is the IV for Kreyvium.
+pub fn keystream(
+    instance: u32,
+    m: u32,
+    key: &[u8],
+    indices: &[u32],
+    whitening: &[u8],
+    result: &mut [u8],
+) -> Answer
+    ensures { λ r. ⌜ Streamed instance m (now (key .entry)) (now (indices .entry)) (now (whitening .entry)) (now (result .entry)) r (now (result .exit)) ⌝ }
+{
+    let r = judge::keystream(instance, m, key, indices, whitening, result.len());
+    let Answer::Done = r else {
+        return r;
+    };
+    let n = m as usize;
+    put_stream(instance, key, indices, whitening, &mut result[..n]);
+    Answer::Done
+}
+
+// A record of m bits, each added to the keystream bit at its place.
+pub fn encipher(
+    instance: u32,
+    m: u32,
+    key: &[u8],
+    record: &[u8],
+    indices: &[u32],
+    whitening: &[u8],
+    result: &mut [u8],
+) -> Answer
+    ensures { λ r. ⌜ Ciphered instance m (now (key .entry)) (now («record» .entry)) (now (indices .entry)) (now (whitening .entry)) (now (result .entry)) r (now (result .exit)) ⌝ }
+{
+    let r = judge::encipher(instance, m, key, record, indices, whitening, result.len());
+    let Answer::Done = r else {
+        return r;
+    };
+    let n = m as usize;
+    put_stream(instance, key, indices, whitening, &mut result[..n]);
+    add(record, result);
+    Answer::Done
+}
+
+// Adding the same keystream again takes it off.
+pub fn decipher(
+    instance: u32,
+    m: u32,
+    key: &[u8],
+    record: &[u8],
+    indices: &[u32],
+    whitening: &[u8],
+    result: &mut [u8],
+) -> Answer
+    ensures { λ r. ⌜ Ciphered instance m (now (key .entry)) (now («record» .entry)) (now (indices .entry)) (now (whitening .entry)) (now (result .entry)) r (now (result .exit)) ⌝ }
+{
+    encipher(instance, m, key, record, indices, whitening, result)
 }

@@ -1,53 +1,58 @@
+use Prim.Native.Nat.{_≤_, _-_}
+use mathlib.Core.Path.{_≡_, _∙_}
+use native.Mathlib.Omega.{arith}
+use lib.ListN.{length, take}
+use denote.Ref.{now}
+use Rattle.answer.specs.Fronts.{over}
+use Rattle.cipher.specs.Cipher.{added}
+use Rattle.cipher.proofs.Sums.{sums-none, sums-next, sums-all}
+use borrow.Author.Needs.{needs}
 use Rattle.cipher.proofs.add.Statement.{statement}
 use Rattle.cipher.proofs.add.Tie as tie
-use Rattle.cipher.proofs.add.Reads as reads
-use Rattle.cipher.proofs.add.Lts as lts
 
 abbrev Inv-loop : tie.InvT-loop
-Inv-loop «record» out₀ i₀ out i = ?
+Inv-loop «record» out₀ i₀ out i = (out ≡ over (added (take i «record») (take i out₀)) out₀) × (i ≤ length «record») × (length «record» ≤ length out₀) × (length out ≡ length out₀)
 
 abbrev μ-loop : tie.MeasureT-loop
-μ-loop «record» out₀ i₀ out i = ?
+μ-loop «record» out₀ i₀ out i = length «record» - i
 
--- src/lib.rt:18:5
 loop-holds : tie.Need-loop-holds Inv-loop μ-loop
-loop-holds c = ?
+loop-holds c =
+    let a = c .args in
+    (sums-none (now (a .«record»)) (now (a .out)) (c .pre), search needs, search needs, search needs)
 
--- src/lib.rt:19:19
 shared-slice-read-out : tie.Need-shared-slice-read-out Inv-loop μ-loop
-shared-slice-read-out c = ?
+shared-slice-read-out c = search needs
 
--- src/lib.rt:19:35
 slice-read-out : tie.Need-slice-read-out Inv-loop μ-loop
-slice-read-out c = ?
+slice-read-out c = search needs
 
--- src/lib.rt:19:19
 add-out : tie.Need-add-out Inv-loop μ-loop
-add-out c = ?
+add-out c = search needs
 
--- src/lib.rt:19:9
 slice-write-out : tie.Need-slice-write-out Inv-loop μ-loop
-slice-write-out c = ?
+slice-write-out c = search needs
 
--- src/lib.rt:20:9
 add-i : tie.Need-add-i Inv-loop μ-loop
-add-i c = ?
+add-i c = search needs
 
--- src/lib.rt:18:5
 loop-less : tie.Need-loop-less Inv-loop μ-loop
-loop-less c = ?
+loop-less c = search needs
 
--- src/lib.rt:18:5
 loop-again : tie.Need-loop-again Inv-loop μ-loop
-loop-again c = ?
+loop-again c =
+    let l = c .before .before .before .loop in
+    let s = c .before .before .before .before in
+    (sums-next (now (s .args .«record»)) (now (s .args .out)) (s .pre) (l .i) (l .out) (search needs) (l .inv .0), search needs, search needs, search needs)
 
--- src/lib.rt:13:1
 same-length : tie.Need-same-length Inv-loop μ-loop
-same-length c = ?
+same-length c = search needs
 
--- src/lib.rt:13:1
 returns : tie.Need-returns Inv-loop μ-loop
-returns c = ?
+returns c =
+    let s = c .before .before in
+    let e : c .before .loop .i ≡ length (now (s .args .«record»)) = omega arith in
+    c .before .loop .inv .0 ∙ sums-all (now (s .args .«record»)) (now (s .args .out)) (s .pre) _ e
 
 pub add-spec : {M : Type 1} → statement M
 add-spec =

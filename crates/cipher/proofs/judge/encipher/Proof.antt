@@ -3,41 +3,29 @@ use Rattle.cipher.specs.Judging.{encipherAnswer}
 use borrow.Author.Needs.{needs}
 use Rattle.cipher.proofs.judge.encipher.Statement.{statement}
 use Rattle.cipher.proofs.judge.encipher.Tie as tie
-use Rattle.cipher.proofs.judge.encipher.Reads as reads
-use Rattle.cipher.proofs.judge.encipher.Lts as lts
-use Rattle.cipher.proofs.judge.record_bits.Reads as record-bits-reads
-use Rattle.cipher.proofs.judge.record_lengths.Reads as record-lengths-reads
-use Rattle.cipher.proofs.judge.wiring.Reads as wiring-reads
-use Rattle.instance.proofs.numbers.Reads as numbers-reads
 
--- src/judge.rt:108:9
 numbers-requires : tie.Need-numbers-requires
 numbers-requires c κs = search needs
 
 enum-told : tie.Need-enum-told
 enum-told c = search needs
 
--- src/judge.rt:110:9
 enum-told-2 : tie.Need-enum-told-2
 enum-told-2 c = search needs
 
--- src/judge.rt:110:9
 returns : tie.Need-returns
 unfolding encipherAnswer
 returns c = stop _ (c .before .before .numbers .ensures) (c .enum-told2 .given .1)
 
--- src/judge.rt:112:9
 record-lengths-requires : tie.Need-record-lengths-requires
 record-lengths-requires c κs = search needs
 
 enum-told-3 : tie.Need-enum-told-3
 enum-told-3 c = search needs
 
--- src/judge.rt:121:9
 enum-told-4 : tie.Need-enum-told-4
 enum-told-4 c = search needs
 
--- src/judge.rt:121:9
 returns-2 : tie.Need-returns-2
 unfolding encipherAnswer
 returns-2 c =
@@ -45,18 +33,15 @@ returns-2 c =
     let n = l .before .before .before in
     go (n .numbers .ensures) (l .before .enum-told .given .1) (stop _ (l .record-lengths .ensures) (c .enum-told4 .given .1))
 
--- src/judge.rt:123:9
 record-bits-requires : tie.Need-record-bits-requires
 record-bits-requires c κs = search needs
 
 enum-told-5 : tie.Need-enum-told-5
 enum-told-5 c = search needs
 
--- src/judge.rt:125:9
 enum-told-6 : tie.Need-enum-told-6
 enum-told-6 c = search needs
 
--- src/judge.rt:125:9
 returns-3 : tie.Need-returns-3
 unfolding encipherAnswer
 returns-3 c =
@@ -66,11 +51,9 @@ returns-3 c =
     go (n .numbers .ensures) (l .before .enum-told .given .1)
     (go (l .record-lengths .ensures) (b .before .enum-told3 .given .1) (stop _ (b .record-bits .ensures) (c .enum-told6 .given .1)))
 
--- src/judge.rt:127:5
 wiring-requires : tie.Need-wiring-requires
 wiring-requires c κs = search needs
 
--- src/judge.rt:97:1
 returns-4 : tie.Need-returns-4
 unfolding encipherAnswer
 returns-4 c =

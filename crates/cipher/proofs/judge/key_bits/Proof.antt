@@ -2,30 +2,22 @@ use Rattle.answer.proofs.Rows.{stop, go}
 use borrow.Author.Needs.{needs}
 use Rattle.cipher.proofs.judge.key_bits.Statement.{statement}
 use Rattle.cipher.proofs.judge.key_bits.Tie as tie
-use Rattle.cipher.proofs.judge.key_bits.Reads as reads
-use Rattle.cipher.proofs.judge.key_bits.Lts as lts
-use Rattle.instance.proofs.bits.Reads as bits-reads
 
--- src/judge.rt:89:9
 bits-requires : tie.Need-bits-requires
 bits-requires c κs = search needs
 
 enum-told : tie.Need-enum-told
 enum-told c = search needs
 
--- src/judge.rt:91:9
 enum-told-2 : tie.Need-enum-told-2
 enum-told-2 c = search needs
 
--- src/judge.rt:91:9
 returns : tie.Need-returns
 returns c = stop _ (c .before .before .bits .ensures) (c .enum-told2 .given .1)
 
--- src/judge.rt:93:5
 bits-requires-2 : tie.Need-bits-requires-2
 bits-requires-2 c κs = search needs
 
--- src/judge.rt:86:1
 returns-2 : tie.Need-returns-2
 returns-2 c = go (c .before .before .before .bits .ensures) (c .before .enum-told .given .1) (c .bits2 .ensures)
 

@@ -6,41 +6,30 @@ use Rattle.answer.proofs.Rows.{stop, go}
 use borrow.Author.Needs.{needs}
 use Rattle.cipher.proofs.judge.key_lengths.Statement.{statement}
 use Rattle.cipher.proofs.judge.key_lengths.Tie as tie
-use Rattle.cipher.proofs.judge.key_lengths.Reads as reads
-use Rattle.cipher.proofs.judge.key_lengths.Lts as lts
-use Rattle.cipher.proofs.judge.wiring_lengths.Reads as wiring-lengths-reads
-use Rattle.instance.proofs.exact.Reads as exact-reads
-use Rattle.instance.proofs.sizes_of.Reads as sizes-of-reads
 
 -- the key is judged by the table's size
 key-is : (c : tie.After-exact) →
     let a = c .before .before .args in c .exact .result ≡ lengthAnswer 1 (a .key) (keyBits (a .instance))
 key-is c = c .exact .ensures ∙ ap (λ (s : Sizes). lengthAnswer 1 (c .before .before .args .key) (s .key)) (c .before .sizes-of .ensures)
 
--- src/judge.rt:78:9
 sizes-of-requires : tie.Need-sizes-of-requires
 sizes-of-requires c κs = search needs
 
--- src/judge.rt:79:9
 exact-requires : tie.Need-exact-requires
 exact-requires c κs = search needs
 
 enum-told : tie.Need-enum-told
 enum-told c = search needs
 
--- src/judge.rt:81:9
 enum-told-2 : tie.Need-enum-told-2
 enum-told-2 c = search needs
 
--- src/judge.rt:81:9
 returns : tie.Need-returns
 returns c = stop _ (key-is (c .before .before)) (c .enum-told2 .given .1)
 
--- src/judge.rt:83:5
 wiring-lengths-requires : tie.Need-wiring-lengths-requires
 wiring-lengths-requires c κs = search needs
 
--- src/judge.rt:75:1
 returns-2 : tie.Need-returns-2
 returns-2 c = go (key-is (c .before .before .before)) (c .before .enum-told .given .1) (c .wiring-lengths .ensures)
 

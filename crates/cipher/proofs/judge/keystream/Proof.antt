@@ -3,41 +3,29 @@ use Rattle.cipher.specs.Judging.{keystreamAnswer}
 use borrow.Author.Needs.{needs}
 use Rattle.cipher.proofs.judge.keystream.Statement.{statement}
 use Rattle.cipher.proofs.judge.keystream.Tie as tie
-use Rattle.cipher.proofs.judge.keystream.Reads as reads
-use Rattle.cipher.proofs.judge.keystream.Lts as lts
-use Rattle.cipher.proofs.judge.key_bits.Reads as key-bits-reads
-use Rattle.cipher.proofs.judge.key_lengths.Reads as key-lengths-reads
-use Rattle.cipher.proofs.judge.wiring.Reads as wiring-reads
-use Rattle.instance.proofs.numbers.Reads as numbers-reads
 
--- src/judge.rt:60:9
 numbers-requires : tie.Need-numbers-requires
 numbers-requires c κs = search needs
 
 enum-told : tie.Need-enum-told
 enum-told c = search needs
 
--- src/judge.rt:62:9
 enum-told-2 : tie.Need-enum-told-2
 enum-told-2 c = search needs
 
--- src/judge.rt:62:9
 returns : tie.Need-returns
 unfolding keystreamAnswer
 returns c = stop _ (c .before .before .numbers .ensures) (c .enum-told2 .given .1)
 
--- src/judge.rt:64:9
 key-lengths-requires : tie.Need-key-lengths-requires
 key-lengths-requires c κs = search needs
 
 enum-told-3 : tie.Need-enum-told-3
 enum-told-3 c = search needs
 
--- src/judge.rt:66:9
 enum-told-4 : tie.Need-enum-told-4
 enum-told-4 c = search needs
 
--- src/judge.rt:66:9
 returns-2 : tie.Need-returns-2
 unfolding keystreamAnswer
 returns-2 c =
@@ -45,18 +33,15 @@ returns-2 c =
     let n = l .before .before .before in
     go (n .numbers .ensures) (l .before .enum-told .given .1) (stop _ (l .key-lengths .ensures) (c .enum-told4 .given .1))
 
--- src/judge.rt:68:9
 key-bits-requires : tie.Need-key-bits-requires
 key-bits-requires c κs = search needs
 
 enum-told-5 : tie.Need-enum-told-5
 enum-told-5 c = search needs
 
--- src/judge.rt:70:9
 enum-told-6 : tie.Need-enum-told-6
 enum-told-6 c = search needs
 
--- src/judge.rt:70:9
 returns-3 : tie.Need-returns-3
 unfolding keystreamAnswer
 returns-3 c =
@@ -66,11 +51,9 @@ returns-3 c =
     go (n .numbers .ensures) (l .before .enum-told .given .1)
     (go (l .key-lengths .ensures) (b .before .enum-told3 .given .1) (stop _ (b .key-bits .ensures) (c .enum-told6 .given .1)))
 
--- src/judge.rt:72:5
 wiring-requires : tie.Need-wiring-requires
 wiring-requires c κs = search needs
 
--- src/judge.rt:50:1
 returns-4 : tie.Need-returns-4
 unfolding keystreamAnswer
 returns-4 c =

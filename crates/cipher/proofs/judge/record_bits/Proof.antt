@@ -2,47 +2,36 @@ use Rattle.answer.proofs.Rows.{stop, go}
 use borrow.Author.Needs.{needs}
 use Rattle.cipher.proofs.judge.record_bits.Statement.{statement}
 use Rattle.cipher.proofs.judge.record_bits.Tie as tie
-use Rattle.cipher.proofs.judge.record_bits.Reads as reads
-use Rattle.cipher.proofs.judge.record_bits.Lts as lts
-use Rattle.instance.proofs.bits.Reads as bits-reads
 
--- src/judge.rt:155:9
 bits-requires : tie.Need-bits-requires
 bits-requires c κs = search needs
 
 enum-told : tie.Need-enum-told
 enum-told c = search needs
 
--- src/judge.rt:157:9
 enum-told-2 : tie.Need-enum-told-2
 enum-told-2 c = search needs
 
--- src/judge.rt:157:9
 returns : tie.Need-returns
 returns c = stop _ (c .before .before .bits .ensures) (c .enum-told2 .given .1)
 
--- src/judge.rt:159:9
 bits-requires-2 : tie.Need-bits-requires-2
 bits-requires-2 c κs = search needs
 
 enum-told-3 : tie.Need-enum-told-3
 enum-told-3 c = search needs
 
--- src/judge.rt:161:9
 enum-told-4 : tie.Need-enum-told-4
 enum-told-4 c = search needs
 
--- src/judge.rt:161:9
 returns-2 : tie.Need-returns-2
 returns-2 c =
     let b = c .before .before in
     go (b .before .before .before .bits .ensures) (b .before .enum-told .given .1) (stop _ (b .bits2 .ensures) (c .enum-told4 .given .1))
 
--- src/judge.rt:163:5
 bits-requires-3 : tie.Need-bits-requires-3
 bits-requires-3 c κs = search needs
 
--- src/judge.rt:152:1
 returns-3 : tie.Need-returns-3
 returns-3 c =
     let b = c .before .before .before in

@@ -8,12 +8,6 @@ use Rattle.cipher.specs.Judging.{wiringAnswer}
 use borrow.Author.Needs.{needs}
 use Rattle.cipher.proofs.judge.wiring.Statement.{statement}
 use Rattle.cipher.proofs.judge.wiring.Tie as tie
-use Rattle.cipher.proofs.judge.wiring.Reads as reads
-use Rattle.cipher.proofs.judge.wiring.Lts as lts
-use Rattle.instance.proofs.room.Reads as room-reads
-use Rattle.instance.proofs.rows.Reads as rows-reads
-use Rattle.instance.proofs.sizes_of.Reads as sizes-of-reads
-use Rattle.instance.proofs.whitening.Reads as whitening-reads
 
 -- the rows are judged by the table's sizes
 rows-are : (c : tie.After-rows) →
@@ -22,57 +16,46 @@ rows-are c =
     let a = c .before .before .before .before .args in
     c .rows .ensures ∙ ap (λ (s : Sizes). rowsAnswer (a .list) (s .key) (s .row) (now (a .indices))) (c .before .sizes-of .ensures)
 
--- src/judge.rt:33:9
 sizes-of-requires : tie.Need-sizes-of-requires
 sizes-of-requires c κs = search needs
 
--- src/judge.rt:34:9
 rows-requires : tie.Need-rows-requires
 rows-requires c κs = search needs
 
 enum-told : tie.Need-enum-told
 enum-told c = search needs
 
--- src/judge.rt:36:9
 enum-told-2 : tie.Need-enum-told-2
 enum-told-2 c = search needs
 
--- src/judge.rt:36:9
 returns : tie.Need-returns
 unfolding wiringAnswer
 returns c = stop _ (rows-are (c .before .before)) (c .enum-told2 .given .1)
 
--- src/judge.rt:38:54
 add-whitening : tie.Need-add-whitening
 add-whitening c = search needs
 
--- src/judge.rt:38:9
 whitening-requires : tie.Need-whitening-requires
 whitening-requires c κs = search needs
 
 enum-told-3 : tie.Need-enum-told-3
 enum-told-3 c = search needs
 
--- src/judge.rt:40:9
 enum-told-4 : tie.Need-enum-told-4
 enum-told-4 c = search needs
 
--- src/judge.rt:40:9
 returns-2 : tie.Need-returns-2
 unfolding wiringAnswer
 returns-2 c =
     let w = c .before .before in
     go (rows-are (w .before .before .before)) (w .before .enum-told .given .1) (stop _ (w .whitening .ensures) (c .enum-told4 .given .1))
 
--- src/judge.rt:42:38
 add-room : tie.Need-add-room
 add-room c = search needs
 
--- src/judge.rt:42:5
 room-requires : tie.Need-room-requires
 room-requires c κs = search needs
 
--- src/judge.rt:22:1
 returns-3 : tie.Need-returns-3
 unfolding wiringAnswer
 returns-3 c =

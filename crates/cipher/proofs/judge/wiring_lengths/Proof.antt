@@ -1,8 +1,6 @@
-use Prim.Native.Nat.{_+_}
-use mathlib.Core.Path.{_≡_}
+use Prim.Native.Nat.{_+_, ℕ, _*_}
+use mathlib.Core.Path.{_≡_, ap, _∙_}
 use Rattle.instance.specs.Table.{rowBits}
-use Prim.Native.Nat.{ℕ, _*_}
-use mathlib.Core.Path.{ap, _∙_}
 use native.Mathlib.Omega.{arith}
 use Rattle.answer.proofs.Rows.{stop, go}
 use Rattle.instance.specs.Judging.{lengthAnswer}
@@ -11,11 +9,6 @@ use Rattle.cipher.specs.Judging.{wiringLengths}
 use borrow.Author.Needs.{needs}
 use Rattle.cipher.proofs.judge.wiring_lengths.Statement.{statement}
 use Rattle.cipher.proofs.judge.wiring_lengths.Tie as tie
-use Rattle.cipher.proofs.judge.wiring_lengths.Reads as reads
-use Rattle.cipher.proofs.judge.wiring_lengths.Lts as lts
-use Rattle.instance.proofs.exact.Reads as exact-reads
-use Rattle.instance.proofs.row_bits.Reads as row-bits-reads
-use Rattle.instance.proofs.whitening_bits.Reads as whitening-bits-reads
 
 -- the indices are judged by the table's row
 indices-are : (c : tie.After-exact) →
@@ -24,43 +17,34 @@ indices-are c =
     let a = c .before .before .args in
     c .exact .ensures ∙ ap (λ (n : ℕ). lengthAnswer (a .list) (a .indices) (a .m * n)) (c .before .row-bits .ensures .0)
 
--- src/judge.rt:13:9
 row-bits-requires : tie.Need-row-bits-requires
 row-bits-requires c κs = search needs
 
--- src/judge.rt:14:38
 mul-exact : tie.Need-mul-exact
 mul-exact c = record { fits = below 32 (search needs) (omega (arith, c .row-bits .ensures .1)) }
 
--- src/judge.rt:14:9
 exact-requires : tie.Need-exact-requires
 exact-requires c κs = search needs
 
 enum-told : tie.Need-enum-told
 enum-told c = search needs
 
--- src/judge.rt:16:9
 enum-told-2 : tie.Need-enum-told-2
 enum-told-2 c = search needs
 
--- src/judge.rt:16:9
 returns : tie.Need-returns
 unfolding wiringLengths
 returns c = stop _ (indices-are (c .before .before)) (c .enum-told2 .given .1)
 
--- src/judge.rt:18:32
 whitening-bits-requires : tie.Need-whitening-bits-requires
 whitening-bits-requires c κs = search needs
 
--- src/judge.rt:18:71
 add-exact : tie.Need-add-exact
 add-exact c = search needs
 
--- src/judge.rt:18:5
 exact-requires-2 : tie.Need-exact-requires-2
 exact-requires-2 c κs = search needs
 
--- src/judge.rt:9:1
 returns-2 : tie.Need-returns-2
 unfolding wiringLengths
 returns-2 c =

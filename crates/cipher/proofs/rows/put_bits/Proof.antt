@@ -1,28 +1,20 @@
-use mathlib.Core.Path.{sym}
-use lib.ListN.{getD, take, drop, length-take, length-append, length-drop}
+use mathlib.Core.Path.{sym, _≡_, ap, _∙_}
+use lib.ListN.{take, drop, length-take, length-append, length-drop, length}
 use lib.Seq.{getD-drop}
 use Rattle.answer.proofs.Over.{tail-is, tail-room}
-use Rattle.cipher.proofs.Variables.{within}
+use Rattle.cipher.proofs.Variables.{within, row-in, bit-is}
 use Rattle.instance.specs.Table.{rowBits}
-use Prim.Native.Nat.{ℕ}
-use Prim.Native.Nat.{_+_, _*_}
+use Prim.Native.Nat.{ℕ, _+_, _*_, _≤_, _-_}
 use native.Mathlib.Nat.{mul-le-mul}
 use Rattle.instance.proofs.Judged.{row-small}
-use Prim.Native.Nat.{_≤_, _-_}
-use mathlib.Core.Path.{_≡_, ap, _∙_}
 use native.Mathlib.Omega.{arith}
-use lib.ListN.{length}
 use Rattle.answer.specs.Fronts.{over}
 use Rattle.filter.specs.Filter.{tab}
 use Rattle.filter.proofs.Tab.{tab-none, tab-more, tab-whole}
 use Rattle.cipher.specs.Rows.{streamBit}
-use Rattle.cipher.proofs.Variables.{row-in, bit-is}
 use borrow.Author.Needs.{needs}
 use Rattle.cipher.proofs.rows.put_bits.Statement.{statement}
 use Rattle.cipher.proofs.rows.put_bits.Tie as tie
-use Rattle.cipher.proofs.rows.put_bits.Reads as reads
-use Rattle.cipher.proofs.rows.put_bits.Lts as lts
-use Rattle.cipher.proofs.rows.row_bit.Reads as row-bit-reads
 
 abbrev Inv-loop : tie.InvT-loop
 Inv-loop instance row key indices whitening x₀ out₀ i₀ x out i = (out ≡ over (tab (streamBit instance key indices whitening) i) out₀) × (i ≤ length out₀) × (length out ≡ length out₀) × (length x ≡ length x₀)
@@ -44,51 +36,39 @@ there c =
     let n : length (s .args .out .now) * s .args .row ≡ length (s .args .out .now) * rowBits (s .args .instance) = ap (λ (x : ℕ). length (s .args .out .now) * x) e in
     (omega (arith, p .indices), omega (arith, p .whitening), mul-le-mul {n₂ = 64} {m₂ = 1394} (omega (arith, p .few)) (omega (arith, row-small (s .args .instance))), omega (arith, p .fits))
 
--- src/rows.rt:46:5
 loop-holds : tie.Need-loop-holds Inv-loop μ-loop
 loop-holds c = (tab-none _ _, search needs, search needs, search needs)
 
--- src/rows.rt:47:18
 mul-at : tie.Need-mul-at Inv-loop μ-loop
 mul-at c = omega (arith, there c)
 
--- src/rows.rt:51:13
 mul-row-bit : tie.Need-mul-row-bit Inv-loop μ-loop
 mul-row-bit c = omega (arith, there c)
 
--- src/rows.rt:51:13
 sub-row-bit : tie.Need-sub-row-bit Inv-loop μ-loop
 sub-row-bit c = omega (arith, there c)
 
--- src/rows.rt:51:13
 part-row-bit-start : tie.Need-part-row-bit-start Inv-loop μ-loop
 part-row-bit-start c = omega (arith, there c)
 
--- src/rows.rt:51:13
 part-row-bit-end : tie.Need-part-row-bit-end Inv-loop μ-loop
 part-row-bit-end c = search needs
 
--- src/rows.rt:52:13
 sub-row-bit-2 : tie.Need-sub-row-bit-2 Inv-loop μ-loop
 sub-row-bit-2 c = omega (arith, there (c .before))
 
--- src/rows.rt:52:13
 part-row-bit-start-2 : tie.Need-part-row-bit-start-2 Inv-loop μ-loop
 part-row-bit-start-2 c = omega (arith, there (c .before))
 
--- src/rows.rt:52:13
 part-row-bit-end-2 : tie.Need-part-row-bit-end-2 Inv-loop μ-loop
 part-row-bit-end-2 c = search needs
 
--- src/rows.rt:53:13
 slice-relend-prefix-row-bit : tie.Need-slice-relend-prefix-row-bit Inv-loop μ-loop
 slice-relend-prefix-row-bit c = search needs
 
--- src/rows.rt:53:13
 slice-aggregate-row-bit : tie.Need-slice-aggregate-row-bit Inv-loop μ-loop
 slice-aggregate-row-bit c = omega (arith, length-take (c .before .before .before .before .before .before .before .before .before .before .args .row) (c .before .before .before .before .loop .x), there (c .before .before .before))
 
--- src/rows.rt:48:13
 row-bit-requires : tie.Need-row-bit-requires Inv-loop μ-loop
 row-bit-requires c κs =
     let t = c .before .before .before in
@@ -101,19 +81,15 @@ row-bit-requires c κs =
       λ j h. rw (tail-is at (s .args .indices .now), getD-drop at (s .args .indices .now) j 0) (s .pre .0 .below (at + j) (within (l .i) (length (s .args .out .now)) (s .args .row) j (s .pre .1) (search needs) (omega arith))),
     )
 
--- src/rows.rt:55:9
 slice-write-out : tie.Need-slice-write-out Inv-loop μ-loop
 slice-write-out c = search needs
 
--- src/rows.rt:56:9
 add-i : tie.Need-add-i Inv-loop μ-loop
 add-i c = search needs
 
--- src/rows.rt:46:5
 loop-less : tie.Need-loop-less Inv-loop μ-loop
 loop-less c = search needs
 
--- src/rows.rt:46:5
 loop-again : tie.Need-loop-again Inv-loop μ-loop
 loop-again c =
     let t = c .before .before .before .before .before .before in
@@ -127,15 +103,12 @@ loop-again c =
     ∙ bit-is (s .args .instance) (s .args .key .now) (s .args .indices .now) (s .args .whitening .now) (l .i) (n ∙ s .pre .1) (ap (λ (x : ℕ). l .i * x) (sym n)) (tail-is at (s .args .indices .now)) (tail-is at (s .args .whitening .now)) in
     (rw (l .inv .0) (tab-more f (s .args .out .now) (l .i) _ (search needs) b), search needs, search needs, omega (arith, c .before .x .given, length-append (c .before .before .row-bit .last .1 .1 .1 .1 .0) (drop (s .args .row) (l .x)), length-drop (s .args .row) (l .x), there t))
 
--- src/rows.rt:33:1
 same-length : tie.Need-same-length Inv-loop μ-loop
 same-length c = search needs
 
--- src/rows.rt:33:1
 same-length-2 : tie.Need-same-length-2 Inv-loop μ-loop
 same-length-2 c = search needs
 
--- src/rows.rt:33:1
 returns : tie.Need-returns Inv-loop μ-loop
 returns c =
     let s = c .before .before .before .before .before .before .before in

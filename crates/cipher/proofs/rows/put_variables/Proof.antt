@@ -9,8 +9,6 @@ use Rattle.cipher.proofs.Variables.{variable}
 use borrow.Author.Needs.{needs}
 use Rattle.cipher.proofs.rows.put_variables.Statement.{statement}
 use Rattle.cipher.proofs.rows.put_variables.Tie as tie
-use Rattle.cipher.proofs.rows.put_variables.Reads as reads
-use Rattle.cipher.proofs.rows.put_variables.Lts as lts
 
 abbrev Inv-loop : tie.InvT-loop
 Inv-loop key row w x₀ j₀ x j = (x ≡ over (tab (var key row w) j) x₀) × (j ≤ length x₀) × (length x ≡ length x₀)
@@ -18,49 +16,38 @@ Inv-loop key row w x₀ j₀ x j = (x ≡ over (tab (var key row w) j) x₀) × 
 abbrev μ-loop : tie.MeasureT-loop
 μ-loop key row w x₀ j₀ x j = length x₀ - j
 
--- src/rows.rt:14:5
 loop-holds : tie.Need-loop-holds Inv-loop μ-loop
 loop-holds c = (tab-none _ _, search needs, search needs)
 
--- src/rows.rt:15:17
 mul-p : tie.Need-mul-p Inv-loop μ-loop
 mul-p c = search needs
 
--- src/rows.rt:15:17
 shared-slice-read-p : tie.Need-shared-slice-read-p Inv-loop μ-loop
 shared-slice-read-p c = search needs
 
--- src/rows.rt:15:17
 cast-p : tie.Need-cast-p Inv-loop μ-loop
 cast-p c = omega (arith, c .shared-slice-known .given (c .before .before .loop .j))
 
--- src/rows.rt:16:17
 shared-slice-read-x : tie.Need-shared-slice-read-x Inv-loop μ-loop
 shared-slice-read-x c =
     let s = c .before .before .before .before in
     s .pre .2 (c .before .before .before .loop .j) (search needs)
 
--- src/rows.rt:16:30
 shared-slice-read-x-2 : tie.Need-shared-slice-read-x-2 Inv-loop μ-loop
 shared-slice-read-x-2 c = search needs
 
--- src/rows.rt:16:17
 add-x : tie.Need-add-x Inv-loop μ-loop
 add-x c = search needs
 
--- src/rows.rt:16:9
 slice-write-x : tie.Need-slice-write-x Inv-loop μ-loop
 slice-write-x c = search needs
 
--- src/rows.rt:17:9
 add-j : tie.Need-add-j Inv-loop μ-loop
 add-j c = search needs
 
--- src/rows.rt:14:5
 loop-less : tie.Need-loop-less Inv-loop μ-loop
 loop-less c = search needs
 
--- src/rows.rt:14:5
 loop-again : tie.Need-loop-again Inv-loop μ-loop
 loop-again c =
     let l = c .before .before .before .before .loop in
@@ -68,11 +55,9 @@ loop-again c =
     let f = var (s .args .key .now) (s .args .row .now) (s .args .w .now) in
     (rw (l .inv .0) (tab-more f (s .args .x .now) (l .j) _ (search needs) (variable (s .args .key .now) (s .args .row .now) (s .args .w .now) (l .j))), search needs, search needs)
 
--- src/rows.rt:9:1
 same-length : tie.Need-same-length Inv-loop μ-loop
 same-length c = search needs
 
--- src/rows.rt:9:1
 returns : tie.Need-returns Inv-loop μ-loop
 returns c =
     let s = c .before .before in

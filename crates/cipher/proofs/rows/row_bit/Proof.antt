@@ -3,24 +3,16 @@ use Rattle.filter.specs.Instances.{filterOf}
 use borrow.Author.Needs.{needs}
 use Rattle.cipher.proofs.rows.row_bit.Statement.{statement}
 use Rattle.cipher.proofs.rows.row_bit.Tie as tie
-use Rattle.cipher.proofs.rows.row_bit.Reads as reads
-use Rattle.cipher.proofs.rows.row_bit.Lts as lts
-use Rattle.cipher.proofs.rows.put_variables.Reads as put-variables-reads
-use Rattle.filter.proofs.filter.Reads as filter-reads
 
--- src/rows.rt:28:5
 put-variables-requires : tie.Need-put-variables-requires
 put-variables-requires c κs = search needs
 
--- src/rows.rt:29:5
 filter-requires : tie.Need-filter-requires
 filter-requires c κs = search needs
 
--- src/rows.rt:24:1
 same-length : tie.Need-same-length
 same-length c = search needs
 
--- src/rows.rt:24:1
 returns : tie.Need-returns
 returns c = c .filter .ensures ∙ ap (filterOf (c .before .before .before .before .before .before .before .before .before .before .args .instance)) (c .before .before .before .before .put-variables .ensures)
 

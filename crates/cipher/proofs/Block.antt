@@ -1,0 +1,29 @@
+-- Kreyvium's block of 64 bits, for its writer.
+use Prim.Native.Nat.{ℕ, zero, suc, _-_, _/_, _%_, _^_, _≤_}
+use mathlib.Core.Path.{_≡_, refl, ap, ap₂}
+use mathlib.Core.List.{List, [], _∷_, _++_}
+use lib.ListN.{length, getD, take, drop}
+use Rattle.kreyvium.specs.Words.{bits, packed, bit, tops}
+use Rattle.kreyvium.specs.Kreyvium.{streamOf}
+use Rattle.kreyvium.proofs.Packed.{two-words}
+use Rattle.filter.specs.Filter.{tab}
+
+abbrev pub blockBit : ℕ → ℕ → ℕ
+blockBit z i = bit z (63 - i)
+
+pub tab-tops : (n z : ℕ) → tab (blockBit z) n ≡ tops n z
+unfolding tab tops
+tab-tops zero z = refl
+tab-tops (suc n) z = ap (λ (t : List ℕ). t ++ bit z (63 - n) ∷ []) (tab-tops n z)
+
+pub block-bit : (z i : ℕ) → z / 2 ^ (63 - i) % 2 ≡ blockBit z i
+unfolding bit
+block-bit z i = refl
+
+module _ (key iv : List ℕ) (k : length key ≡ 128) (v : length iv ≡ 128) (b : (i : ℕ) → getD key i 0 ≤ 1) (d : (i : ℕ) → getD iv i 0 ≤ 1) where
+  -- key and IV lent as two words each
+  pub stream-words : (k0 k1 v0 v1 n : ℕ) → k0 ≡ packed (take 64 (drop 0 key)) → k1 ≡ packed (take 64 (drop 64 key))
+      → v0 ≡ packed (take 64 (drop 0 iv)) → v1 ≡ packed (take 64 (drop 64 iv))
+      → streamOf (bits 64 k0 ++ bits 64 k1) (bits 64 v0 ++ bits 64 v1) n ≡ streamOf key iv n
+  stream-words k0 k1 v0 v1 n e0 e1 f0 f1 =
+      rw (e0, e1, f0, f1) (ap₂ (λ (x y : List ℕ). streamOf x y n) (two-words key k b) (two-words iv v d))

@@ -1,0 +1,54 @@
+use mathlib.Core.Path.{_∙_}
+use denote.Ref.{now}
+use Rattle.cipher.proofs.Block.{stream-words}
+use borrow.Author.Needs.{needs}
+use Rattle.cipher.proofs.stream.put.Statement.{statement}
+use Rattle.cipher.proofs.stream.put.Tie as tie
+
+word-requires : tie.Need-word-requires
+word-requires c κs = search needs
+
+word-requires-2 : tie.Need-word-requires-2
+word-requires-2 c κs = search needs
+
+word-requires-3 : tie.Need-word-requires-3
+word-requires-3 c κs = search needs
+
+word-requires-4 : tie.Need-word-requires-4
+word-requires-4 c κs = search needs
+
+stream64-requires : tie.Need-stream64-requires
+stream64-requires c κs = search needs
+
+put-block-requires : tie.Need-put-block-requires
+put-block-requires c κs = search needs
+
+same-length : tie.Need-same-length
+same-length c = search needs
+
+returns : tie.Need-returns
+returns c =
+    let b = c .before .before in
+    let t = b .before .before in
+    let w4 = t .before in
+    let w3 = w4 .before in
+    let w2 = w3 .before in
+    let w1 = w2 .before in
+    let s = w1 .before .before .before .before in
+    let p = s .pre in
+    b .put-block .ensures
+    ∙ t .stream64 .ensures _ (p .0)
+    ∙ stream-words (now (s .args .key)) (now (s .args .iv)) (p .1) (p .2) (p .3) (p .4) _ _ _ _ _ (w1 .word .ensures) (w2 .word2 .ensures) (w3 .word3 .ensures) (w4 .word4 .ensures)
+
+pub put-spec : {M : Type 1} → statement M
+put-spec =
+    tie.close
+    (tie.spec
+    word-requires
+    word-requires-2
+    word-requires-3
+    word-requires-4
+    stream64-requires
+    put-block-requires
+    same-length
+    returns)
