@@ -12,6 +12,7 @@ use Rattle.meter.specs.declared.Metered.{Metered}
 use Rattle.meter.specs.Meter.{ifDone, MeteredAs}
 use Rattle.glue.specs.Glue.{GluedAs}
 use Rattle.choice.specs.Choice.{Chosen}
+use Rattle.cipher.specs.Cipher.{Streamed, Ciphered}
 
 -- two lists that were left by equal answers
 same-left : {r s : Answer} (front old : List ℕ) {x y : List ℕ} → r ≡ s → x ≡ left r front old → y ≡ left s front old → x ≡ y
@@ -48,5 +49,18 @@ meter-decides net ds ands muxes {r} {s} x y =
 
 pub choose-decides : (inst : ℕ) (draws row : List ℕ) {r s : Answer} {v w : List ℕ} → Chosen inst draws row r v → Chosen inst draws row s w → (r ≡ s) × (v ≡ w)
 choose-decides inst draws row x y =
+    let e = x .answered ∙ sym (y .answered) in
+    (e, same-left _ _ e (x .written) (y .written))
+
+pub keystream-decides : (inst m : ℕ) (key idx wh out : List ℕ) {r s : Answer} {v w : List ℕ}
+    → Streamed inst m key idx wh out r v → Streamed inst m key idx wh out s w → (r ≡ s) × (v ≡ w)
+keystream-decides inst m key idx wh out x y =
+    let e = x .answered ∙ sym (y .answered) in
+    (e, same-left _ _ e (x .written) (y .written))
+
+-- enciphering and deciphering
+pub cipher-decides : (inst m : ℕ) (key rec idx wh out : List ℕ) {r s : Answer} {v w : List ℕ}
+    → Ciphered inst m key rec idx wh out r v → Ciphered inst m key rec idx wh out s w → (r ≡ s) × (v ≡ w)
+cipher-decides inst m key rec idx wh out x y =
     let e = x .answered ∙ sym (y .answered) in
     (e, same-left _ _ e (x .written) (y .written))

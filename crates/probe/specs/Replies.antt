@@ -9,6 +9,7 @@ use Rattle.meter.specs.declared.Metered.{Metered}
 use Rattle.meter.specs.Meter.{MeteredAs}
 use Rattle.glue.specs.Glue.{GluedAs}
 use Rattle.choice.specs.Choice.{Chosen}
+use Rattle.cipher.specs.Cipher.{Streamed, Ciphered}
 use Rattle.probe.specs.declared.Reply.{Reply}
 use Rattle.probe.specs.declared.Metering.{Metering}
 
@@ -42,4 +43,14 @@ pub record GlueReply (a b out : List ℕ) (r : Reply) (out′ : List ℕ) : Type
 pub record ChooseReply (inst : ℕ) (draws row : List ℕ) (r : Reply) (row′ : List ℕ) : Type 0 where
   pub answer : Answer
   pub outcome : Chosen inst draws row answer row′
+  pub told : r ≡ replyOf answer
+
+pub record KeystreamReply (inst m : ℕ) (key idx wh out : List ℕ) (r : Reply) (out′ : List ℕ) : Type 0 where
+  pub answer : Answer
+  pub outcome : Streamed inst m key idx wh out answer out′
+  pub told : r ≡ replyOf answer
+
+pub record CipherReply (inst m : ℕ) (key rec idx wh out : List ℕ) (r : Reply) (out′ : List ℕ) : Type 0 where
+  pub answer : Answer
+  pub outcome : Ciphered inst m key rec idx wh out answer out′
   pub told : r ≡ replyOf answer

@@ -4,7 +4,7 @@ use answer::Answer;
 ghost use mathlib.Core.Path.{_≡_};
 ghost use lib.ListN.{length};
 ghost use Rattle.netlist.specs.Check.{netAnswer};
-ghost use Rattle.probe.specs.Replies.{replyOf, EvaluateReply, MeterReply, GlueReply, ChooseReply};
+ghost use Rattle.probe.specs.Replies.{replyOf, EvaluateReply, MeterReply, GlueReply, ChooseReply, KeystreamReply, CipherReply};
 
 #[repr(C)]
 pub struct Reply {
@@ -95,4 +95,48 @@ pub extern "C" fn probe_choose(instance: u32, draws: &[u32], row: &mut [u32]) ->
     ensures { λ r. ⌜ ChooseReply instance (now (draws .entry)) (now (row .entry)) r (now (row .exit)) ⌝ }
 {
     told(choice::choose(instance, draws, row))
+}
+
+#[no_mangle]
+pub extern "C" fn probe_keystream(
+    instance: u32,
+    m: u32,
+    key: &[u8],
+    indices: &[u32],
+    whitening: &[u8],
+    result: &mut [u8],
+) -> Reply
+    ensures { λ r. ⌜ KeystreamReply instance m (now (key .entry)) (now (indices .entry)) (now (whitening .entry)) (now (result .entry)) r (now (result .exit)) ⌝ }
+{
+    told(cipher::keystream(instance, m, key, indices, whitening, result))
+}
+
+#[no_mangle]
+pub extern "C" fn probe_encipher(
+    instance: u32,
+    m: u32,
+    key: &[u8],
+    record: &[u8],
+    indices: &[u32],
+    whitening: &[u8],
+    result: &mut [u8],
+) -> Reply
+    ensures { λ r. ⌜ CipherReply instance m (now (key .entry)) (now («record» .entry)) (now (indices .entry)) (now (whitening .entry)) (now (result .entry)) r (now (result .exit)) ⌝ }
+{
+    told(cipher::encipher(instance, m, key, record, indices, whitening, result))
+}
+
+#[no_mangle]
+pub extern "C" fn probe_decipher(
+    instance: u32,
+    m: u32,
+    key: &[u8],
+    record: &[u8],
+    indices: &[u32],
+    whitening: &[u8],
+    result: &mut [u8],
+) -> Reply
+    ensures { λ r. ⌜ CipherReply instance m (now (key .entry)) (now («record» .entry)) (now (indices .entry)) (now (whitening .entry)) (now (result .entry)) r (now (result .exit)) ⌝ }
+{
+    told(cipher::decipher(instance, m, key, record, indices, whitening, result))
 }

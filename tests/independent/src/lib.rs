@@ -1,15 +1,27 @@
-//! A second, independent program for netlists, and what tests and times the
-//! library against it.
+//! A second, independent program for netlists and ciphers, and what tests and
+//! times the library against it.
 //!
-//! [`netlist`] holds the four calls (check, evaluate, meter, glue), written
-//! from the rules alone: it shares no line with the library under test.
-//! [`probe`] reaches that library through its C interface. [`cases`] makes
-//! sound and damaged netlists from the numbers of [`random`].
+//! [`netlist`] holds the four netlist calls (check, evaluate, meter, glue),
+//! [`cipher`] the three cipher calls (keystream, encipher, decipher) over
+//! [`filter`] and [`kreyvium`], and [`choice`] the choice of rows. They are
+//! written from the rules alone and share no line with the library under test.
+//! [`definitions`] holds the ciphers and the choice a second time, plain and
+//! slow. [`probe`] reaches the library through its C interface. [`cases`] and
+//! [`cipher_cases`] make sound and damaged lists from the numbers of
+//! [`random`]; [`lent`] and [`tally`] compare and count.
 //!
 //! The tests hand both programs the same lists and compare the whole answer
-//! and every lent list; the program `bench` times both on the same netlists.
+//! and every lent list; the program `bench` times both on the same lists.
 
 pub mod cases;
+pub mod choice;
+pub mod cipher;
+pub mod cipher_cases;
+pub mod definitions;
+pub mod filter;
+pub mod kreyvium;
+pub mod lent;
 pub mod netlist;
 pub mod probe;
 pub mod random;
+pub mod tally;

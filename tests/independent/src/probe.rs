@@ -58,6 +58,57 @@ extern "C" {
         out: *mut u32,
         out_length: usize,
     ) -> RawReply;
+
+    fn probe_keystream(
+        instance: u32,
+        m: u32,
+        key: *const u8,
+        key_length: usize,
+        indices: *const u32,
+        indices_length: usize,
+        whitening: *const u8,
+        whitening_length: usize,
+        result: *mut u8,
+        result_length: usize,
+    ) -> RawReply;
+
+    fn probe_encipher(
+        instance: u32,
+        m: u32,
+        key: *const u8,
+        key_length: usize,
+        record: *const u8,
+        record_length: usize,
+        indices: *const u32,
+        indices_length: usize,
+        whitening: *const u8,
+        whitening_length: usize,
+        result: *mut u8,
+        result_length: usize,
+    ) -> RawReply;
+
+    fn probe_decipher(
+        instance: u32,
+        m: u32,
+        key: *const u8,
+        key_length: usize,
+        record: *const u8,
+        record_length: usize,
+        indices: *const u32,
+        indices_length: usize,
+        whitening: *const u8,
+        whitening_length: usize,
+        result: *mut u8,
+        result_length: usize,
+    ) -> RawReply;
+
+    fn probe_choose(
+        instance: u32,
+        draws: *const u32,
+        draws_length: usize,
+        row: *mut u32,
+        row_length: usize,
+    ) -> RawReply;
 }
 
 impl From<RawReply> for Answer {
@@ -132,6 +183,104 @@ pub fn glue(first: &[u32], second: &[u32], out: &mut [u32]) -> Answer {
             second.len(),
             out.as_mut_ptr(),
             out.len(),
+        )
+    }
+    .into()
+}
+
+pub fn keystream(
+    instance: u32,
+    m: u32,
+    key: &[u8],
+    indices: &[u32],
+    whitening: &[u8],
+    result: &mut [u8],
+) -> Answer {
+    // SAFETY: as in `check`.
+    unsafe {
+        probe_keystream(
+            instance,
+            m,
+            key.as_ptr(),
+            key.len(),
+            indices.as_ptr(),
+            indices.len(),
+            whitening.as_ptr(),
+            whitening.len(),
+            result.as_mut_ptr(),
+            result.len(),
+        )
+    }
+    .into()
+}
+
+pub fn encipher(
+    instance: u32,
+    m: u32,
+    key: &[u8],
+    record: &[u8],
+    indices: &[u32],
+    whitening: &[u8],
+    result: &mut [u8],
+) -> Answer {
+    // SAFETY: as in `check`.
+    unsafe {
+        probe_encipher(
+            instance,
+            m,
+            key.as_ptr(),
+            key.len(),
+            record.as_ptr(),
+            record.len(),
+            indices.as_ptr(),
+            indices.len(),
+            whitening.as_ptr(),
+            whitening.len(),
+            result.as_mut_ptr(),
+            result.len(),
+        )
+    }
+    .into()
+}
+
+pub fn decipher(
+    instance: u32,
+    m: u32,
+    key: &[u8],
+    record: &[u8],
+    indices: &[u32],
+    whitening: &[u8],
+    result: &mut [u8],
+) -> Answer {
+    // SAFETY: as in `check`.
+    unsafe {
+        probe_decipher(
+            instance,
+            m,
+            key.as_ptr(),
+            key.len(),
+            record.as_ptr(),
+            record.len(),
+            indices.as_ptr(),
+            indices.len(),
+            whitening.as_ptr(),
+            whitening.len(),
+            result.as_mut_ptr(),
+            result.len(),
+        )
+    }
+    .into()
+}
+
+pub fn choose(instance: u32, draws: &[u32], row: &mut [u32]) -> Answer {
+    // SAFETY: as in `check`.
+    unsafe {
+        probe_choose(
+            instance,
+            draws.as_ptr(),
+            draws.len(),
+            row.as_mut_ptr(),
+            row.len(),
         )
     }
     .into()

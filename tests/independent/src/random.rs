@@ -54,6 +54,16 @@ impl Random {
     }
 }
 
+/// Numbers for the test so numbered. Another `INDEPENDENT_SEED` gives other
+/// cases.
+pub fn seeded(test: u64) -> Random {
+    let seed = match std::env::var("INDEPENDENT_SEED") {
+        Ok(seed) => seed.parse().expect("INDEPENDENT_SEED is a number"),
+        Err(_) => 1,
+    };
+    Random::new(test << 32 ^ seed)
+}
+
 /// What a list can be filled with: any content at all.
 pub trait Arbitrary: Copy {
     fn arbitrary(random: &mut Random) -> Self;

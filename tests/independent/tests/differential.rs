@@ -4,101 +4,18 @@
 //! too.
 
 use independent::cases::{self, Fault, Shape, FAULTS};
+use independent::lent::{show, Lent};
 use independent::netlist::{
     self, Answer, Metering, AND, HEADER, MAX_GATES, MAX_INPUTS, MAX_OUTPUTS, MUX, NOT, ONE, XOR,
     ZERO,
 };
 use independent::probe;
-use independent::random::{bits, fill, Arbitrary, Random};
+use independent::random::{bits, fill, seeded, Random};
+use independent::tally::Tally;
 use std::collections::BTreeMap;
-use std::fmt::Debug;
-use std::hint::black_box;
 
 /// Random cases of each of the four calls.
 const CASES: usize = 250_000;
-
-/// Another seed gives other cases.
-fn seeded(test: u64) -> Random {
-    let seed = match std::env::var("INDEPENDENT_SEED") {
-        Ok(seed) => seed.parse().expect("INDEPENDENT_SEED is a number"),
-        Err(_) => 1,
-    };
-    Random::new(test << 32 ^ seed)
-}
-
-/// A list lent to both programs, each having its own copy between margins that
-/// show a write outside it.
-struct Lent<T> {
-    before: Vec<T>,
-    library: Vec<T>,
-    rust: Vec<T>,
-}
-
-const MARGIN: usize = 8;
-
-impl<T: Arbitrary + Debug + PartialEq> Lent<T> {
-    fn new(content: &[T]) -> Self {
-        let mut random = Random::new(content.len() as u64);
-        let mut before = fill(&mut random, MARGIN);
-        before.extend_from_slice(content);
-        before.extend(fill::<T>(&mut random, MARGIN));
-        Lent {
-            library: before.clone(),
-            rust: before.clone(),
-            before,
-        }
-    }
-
-    fn between(&self) -> std::ops::Range<usize> {
-        MARGIN..self.before.len() - MARGIN
-    }
-
-    fn library(&mut self) -> &mut [T] {
-        let range = self.between();
-        &mut self.library[range]
-    }
-
-    fn rust(&mut self) -> &mut [T] {
-        let range = self.between();
-        &mut self.rust[range]
-    }
-
-    /// Both copies are alike, and as before but for the first `written`.
-    fn settle(self, written: usize, what: &str, case: &dyn Fn() -> String) -> Vec<T> {
-        let library = black_box(&self.library);
-        if *library != self.rust {
-            let at = (0..library.len()).find(|&at| library[at] != self.rust[at]);
-            let at = at.expect("they differ somewhere");
-            panic!(
-                "{what} differ at {}: library {:?}, rust {:?}; {}",
-                at as isize - MARGIN as isize,
-                library[at],
-                self.rust[at],
-                case()
-            );
-        }
-        assert!(
-            library[..MARGIN] == self.before[..MARGIN],
-            "a write before the {what}; {}",
-            case()
-        );
-        assert!(
-            library[MARGIN + written..] == self.before[MARGIN + written..],
-            "a write in the {what} beyond the first {written}; {}",
-            case()
-        );
-        self.library[self.between()].to_vec()
-    }
-}
-
-/// A list as it stands in a message.
-fn show<T: Debug>(list: &[T]) -> String {
-    if list.len() <= 120 {
-        format!("{list:?}")
-    } else {
-        format!("({} long)", list.len())
-    }
-}
 
 /// What an evaluation left behind; the other calls alike.
 struct Evaluated {
@@ -728,11 +645,12 @@ fn damaged_thresholds() -> Vec<Vec<u32>> {
 #[test]
 fn every_damaged_word() {
     let mut random = seeded(1);
-    let mut answers = Tally::default();
+    let (mut answers, mut faults) = (Tally::default(), Faults::default());
     let inputs: [&[u8]; 4] = [&[1, 0, 1], &[1, 2, 1], &[1, 0], &[1, 0, 1, 0]];
     for net in damaged_thresholds() {
         let broken = check(&net);
-        answers.count(&[&net], broken);
+        answers.count(broken);
+        faults.count(&[&net], broken);
         for inputs in inputs {
             for values in [0, 7, 8, 9] {
                 for outputs in [0, 1, 2] {
@@ -770,7 +688,7 @@ fn every_damaged_word() {
         }
     }
     answers.assert_seen(0, 0, 30);
-    answers.assert_all_faults(1, 5);
+    faults.assert_all(1, 5);
 }
 
 /// Two damaged words at once: the earlier one is named.
@@ -855,70 +773,26 @@ fn every_list_length() {
 
 // ---- at random ----
 
-/// An answer's number and list.
-type Condition = (u32, u32);
-
-/// How often each answer and each fault came up.
+/// How often each fault came up, by list.
 #[derive(Default)]
-struct Tally {
-    answers: BTreeMap<Condition, usize>,
-    faults: BTreeMap<(u32, Fault), usize>,
-    /// The answer given, with each later condition that held too.
-    preferred: BTreeMap<(Condition, Condition), usize>,
-}
+struct Faults(BTreeMap<(u32, Fault), usize>);
 
-impl Tally {
+impl Faults {
     fn count(&mut self, netlists: &[&[u32]], answer: Answer) {
-        *self
-            .answers
-            .entry((answer.number, answer.list))
-            .or_default() += 1;
         if answer.number == 9 {
             let words = netlists[answer.list as usize - 1];
             let fault = Fault::at(words, answer.place);
-            *self.faults.entry((answer.list, fault)).or_default() += 1;
+            *self.0.entry((answer.list, fault)).or_default() += 1;
         }
     }
 
-    /// Takes the conditions that held, in the order in which they are judged:
-    /// the first is the answer's.
-    fn judge(&mut self, held: &[Condition], answer: Answer) {
-        let expected = held.first().copied().unwrap_or((0, 0));
-        assert_eq!((answer.number, answer.list), expected);
-        for later in held.iter().skip(1) {
-            *self.preferred.entry((expected, *later)).or_default() += 1;
-        }
-    }
-
-    fn assert_seen(&self, number: u32, list: u32, least: usize) {
-        let seen = self.answers.get(&(number, list)).copied().unwrap_or(0);
-        assert!(
-            seen >= least,
-            "answer {number} on list {list} came up {seen} times, not {least}"
-        );
-    }
-
-    fn assert_all_faults(&self, list: u32, least: usize) {
+    fn assert_all(&self, list: u32, least: usize) {
         for fault in FAULTS {
-            let seen = self.faults.get(&(list, fault)).copied().unwrap_or(0);
+            let seen = self.0.get(&(list, fault)).copied().unwrap_or(0);
             assert!(
                 seen >= least,
                 "{fault:?} in list {list} came up {seen} times, not {least}"
             );
-        }
-    }
-
-    /// Each of these conditions was given where each of the later ones held.
-    fn assert_order(&self, conditions: &[Condition], least: usize) {
-        for (at, earlier) in conditions.iter().enumerate() {
-            for later in &conditions[at + 1..] {
-                let pair = (*earlier, *later);
-                let seen = self.preferred.get(&pair).copied().unwrap_or(0);
-                assert!(
-                    seen >= least,
-                    "{pair:?} held together {seen} times, not {least}"
-                );
-            }
         }
     }
 }
@@ -984,7 +858,7 @@ fn near(random: &mut Random, needed: usize) -> usize {
 #[test]
 fn random_checks() {
     let mut random = seeded(3);
-    let mut tally = Tally::default();
+    let (mut tally, mut faults) = (Tally::default(), Faults::default());
     let mut far = 0;
     for _ in 0..CASES {
         let words = if random.chance(10) {
@@ -994,19 +868,20 @@ fn random_checks() {
             subject(&mut random, &shape, 75).words
         };
         let answer = check(&words);
-        tally.count(&[&words], answer);
+        tally.count(answer);
+        faults.count(&[&words], answer);
         far += usize::from(answer.place > 500);
     }
     tally.assert_seen(0, 0, CASES / 10);
     tally.assert_seen(9, 1, CASES / 2);
-    tally.assert_all_faults(1, CASES / 400);
+    faults.assert_all(1, CASES / 400);
     assert!(far > CASES / 100, "only {far} faults far from the front");
 }
 
 #[test]
 fn random_evaluations() {
     let mut random = seeded(4);
-    let mut tally = Tally::default();
+    let (mut tally, mut faults) = (Tally::default(), Faults::default());
     for _ in 0..CASES {
         let shape = cases::small_shape(&mut random);
         let net = subject(&mut random, &shape, 35);
@@ -1047,7 +922,8 @@ fn random_evaluations() {
             let place = inputs.iter().position(|&byte| byte > 1);
             assert_eq!(Some(result.answer.place), place);
         }
-        tally.count(&[&net.words], result.answer);
+        tally.count(result.answer);
+        faults.count(&[&net.words], result.answer);
         tally.judge(&held, result.answer);
     }
     let order = [(9, 1), (3, 2), (4, 2), (8, 3), (8, 4)];
@@ -1055,14 +931,14 @@ fn random_evaluations() {
         tally.assert_seen(number, list, CASES / 100);
     }
     tally.assert_seen(0, 0, CASES / 20);
-    tally.assert_all_faults(1, CASES / 1_000);
+    faults.assert_all(1, CASES / 1_000);
     tally.assert_order(&order, CASES / 1_000);
 }
 
 #[test]
 fn random_meterings() {
     let mut random = seeded(5);
-    let mut tally = Tally::default();
+    let (mut tally, mut faults) = (Tally::default(), Faults::default());
     let mut levels_seen = BTreeMap::new();
     for _ in 0..CASES {
         let shape = cases::small_shape(&mut random);
@@ -1098,7 +974,8 @@ fn random_meterings() {
             assert_eq!(counted.sum::<u32>(), result.metering.multiplications);
             *levels_seen.entry(levels.min(20)).or_insert(0) += 1;
         }
-        tally.count(&[&net.words], answer);
+        tally.count(answer);
+        faults.count(&[&net.words], answer);
         tally.judge(&held, answer);
     }
     let order = [(9, 1), (8, 2), (8, 3)];
@@ -1106,7 +983,7 @@ fn random_meterings() {
         tally.assert_seen(number, list, CASES / 100);
     }
     tally.assert_seen(0, 0, CASES / 20);
-    tally.assert_all_faults(1, CASES / 1_000);
+    faults.assert_all(1, CASES / 1_000);
     tally.assert_order(&order, CASES / 1_000);
     for levels in 1..=20 {
         let seen = levels_seen.get(&levels).copied().unwrap_or(0);
@@ -1135,7 +1012,7 @@ fn levels_needed(words: &[u32]) -> usize {
 #[test]
 fn random_gluings() {
     let mut random = seeded(6);
-    let mut tally = Tally::default();
+    let (mut tally, mut faults) = (Tally::default(), Faults::default());
     for _ in 0..CASES {
         let shape = cases::small_shape(&mut random);
         let first = subject(&mut random, &shape, 20);
@@ -1162,7 +1039,8 @@ fn random_gluings() {
         }
         let out = fill(&mut random, room);
         let result = glue(&first.words, &second.words, &out);
-        tally.count(&[&first.words, &second.words], result.answer);
+        tally.count(result.answer);
+        faults.count(&[&first.words, &second.words], result.answer);
         tally.judge(&held, result.answer);
         if result.answer == Answer::DONE {
             assert_eq!(netlist::check(&result.out[..needed]), Answer::DONE);
@@ -1173,8 +1051,8 @@ fn random_gluings() {
         tally.assert_seen(number, list, CASES / 100);
     }
     tally.assert_seen(0, 0, CASES / 20);
-    tally.assert_all_faults(1, CASES / 2_000);
-    tally.assert_all_faults(2, CASES / 2_000);
+    faults.assert_all(1, CASES / 2_000);
+    faults.assert_all(2, CASES / 2_000);
     tally.assert_order(&order, CASES / 1_000);
 }
 
@@ -1428,7 +1306,7 @@ fn gluing_at_the_limit_of_gates() {
                     }
                 }
                 let result = glue(&first, &second, &stale[..room]);
-                tally.count(&[&first, &second], result.answer);
+                tally.count(result.answer);
                 tally.judge(&held, result.answer);
                 if result.answer == Answer::DONE {
                     assert_eq!(probe::check(&result.out[..needed]), Answer::DONE);

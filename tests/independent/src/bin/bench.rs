@@ -1,13 +1,17 @@
-//! Times the library and the Rust program on the same netlists and prints
-//! nanoseconds per gate and their ratio. It only reports: the exit status is
-//! always 0.
+//! Times the library and the Rust program on the same lists and prints
+//! nanoseconds and their ratio: for a gate of the netlist calls, and for a
+//! cipher call or a choice. It only reports: the exit status is always 0.
 
 use independent::cases::{self, Shape};
+use independent::cipher::{self, Search, INSTANCES};
+use independent::cipher_cases::{self, Call};
 use independent::netlist::{self, Answer, Metering, HEADER};
-use independent::probe;
 use independent::random::{bits, Random};
+use independent::{choice, kreyvium, probe};
 use std::hint::black_box;
 use std::time::Instant;
+
+// ---- netlists ----
 
 /// Every sample runs over about this many gates, whatever the size of one
 /// netlist. Small netlists are many different ones, so that neither the caches
@@ -207,15 +211,14 @@ fn compare(run: Run, load: &mut Load, gates: usize, refused: &mut usize) -> (f64
     (median(library) / gates, median(rust) / gates)
 }
 
-fn main() {
-    let mut random = Random::new(20_240_229);
+fn netlists(random: &mut Random) {
     // For each mixture and call, the figures by size.
     let mut table = Vec::new();
     let mut refused = 0;
     for mixture in &MIXTURES {
         let mut figures = vec![Vec::new(); CALLS.len()];
         for gates in SIZES {
-            let mut load = Load::new(&mut random, mixture, gates);
+            let mut load = Load::new(random, mixture, gates);
             for (row, (_, run)) in figures.iter_mut().zip(CALLS) {
                 row.push(compare(run, &mut load, gates, &mut refused));
             }
@@ -256,4 +259,237 @@ fn main() {
         println!();
         println!("{refused} calls were refused: the figures above mean nothing");
     }
+}
+
+// ---- ciphers and choice ----
+
+/// All bits that a record can have.
+const BITS: usize = 64;
+const CALL_SAMPLES: usize = 21;
+/// A sample repeats its call until it takes about this long.
+const SAMPLE_NANOSECONDS: f64 = 300_000.0;
+
+/// A call to time, with the answer it has to give.
+struct Timed<'a> {
+    call: &'a mut dyn FnMut() -> Answer,
+    expected: Answer,
+}
+
+/// Nanoseconds of each call. Their samples take turns. Adds how many did not
+/// answer as they have to.
+fn time_calls(calls: &mut [Timed], failed: &mut usize) -> Vec<f64> {
+    let mut repeats = Vec::new();
+    for Timed { call, expected } in calls.iter_mut() {
+        let start = Instant::now();
+        for _ in 0..WARM_UP {
+            *failed += usize::from(call() != *expected);
+        }
+        let each = start.elapsed().as_nanos() as f64 / WARM_UP as f64;
+        repeats.push((SAMPLE_NANOSECONDS / each).max(1.0) as usize);
+    }
+    let mut samples = vec![Vec::new(); calls.len()];
+    for _ in 0..CALL_SAMPLES {
+        for ((Timed { call, .. }, samples), &repeats) in
+            calls.iter_mut().zip(&mut samples).zip(&repeats)
+        {
+            let start = Instant::now();
+            for _ in 0..repeats {
+                black_box(call());
+            }
+            samples.push(start.elapsed().as_nanos() as f64 / repeats as f64);
+        }
+    }
+    samples.into_iter().map(median).collect()
+}
+
+/// A line of the table: what is called, and how it is done in Rust.
+struct Line {
+    call: &'static str,
+    instance: &'static str,
+    way: &'static str,
+    library: f64,
+    rust: f64,
+}
+
+/// What is timed of an instance, and with it the failed calls.
+#[derive(Default)]
+struct Table {
+    lines: Vec<Line>,
+    failed: usize,
+}
+
+impl Table {
+    /// Times the library and the ways of doing the same in Rust.
+    fn compare(
+        &mut self,
+        call: &'static str,
+        instance: u32,
+        expected: Answer,
+        library: &mut dyn FnMut() -> Answer,
+        ways: &mut [(&'static str, &mut dyn FnMut() -> Answer)],
+    ) {
+        let mut calls = vec![Timed {
+            call: library,
+            expected,
+        }];
+        for (_, rust) in ways.iter_mut() {
+            calls.push(Timed {
+                call: *rust,
+                expected,
+            });
+        }
+        let times = time_calls(&mut calls, &mut self.failed);
+        for (&mut (way, _), &rust) in ways.iter_mut().zip(&times[1..]) {
+            self.lines.push(Line {
+                call,
+                instance: INSTANCES[instance as usize - 1].name,
+                way,
+                library: times[0],
+                rust,
+            });
+        }
+    }
+}
+
+fn by_library(call: &Call, result: &mut [u8]) -> Answer {
+    let call = black_box(call);
+    let record = call.record.as_deref().unwrap_or(&[]);
+    probe::encipher(
+        call.instance,
+        call.m,
+        &call.key,
+        record,
+        &call.indices,
+        &call.whitening,
+        black_box(result),
+    )
+}
+
+fn by_rust(call: &Call, result: &mut [u8], search: Search) -> Answer {
+    let call = black_box(call);
+    cipher::run(
+        call.instance,
+        call.m,
+        &call.lists(),
+        black_box(result),
+        search,
+    )
+}
+
+fn encipher(random: &mut Random, instance: u32, table: &mut Table) {
+    let call = cipher_cases::sound(random, instance, BITS, true);
+    let (mut library, mut rust) = ([0; BITS], [0; BITS]);
+    table.compare(
+        "encipher",
+        instance,
+        Answer::DONE,
+        &mut || by_library(&call, &mut library),
+        &mut [("repeats by marks", &mut || {
+            by_rust(&call, &mut rust, cipher::by_marks)
+        })],
+    );
+    table.failed += usize::from(library != rust);
+}
+
+fn encipher_kreyvium(random: &mut Random, table: &mut Table) {
+    let call = cipher_cases::sound(random, 6, BITS, true);
+    let key = call.key.as_slice().try_into().expect("128 key bits");
+    let iv = call.whitening.as_slice().try_into().expect("128 IV bits");
+    let (mut library, mut rust, mut stream) = ([0; BITS], [0; BITS], [0; BITS]);
+    table.compare(
+        "encipher",
+        6,
+        Answer::DONE,
+        &mut || by_library(&call, &mut library),
+        &mut [
+            ("64 rounds at once", &mut || {
+                by_rust(&call, &mut rust, cipher::by_marks)
+            }),
+            ("round by round, unjudged", &mut || {
+                kreyvium::by_recurrences(black_box(key), black_box(iv), black_box(&mut stream));
+                Answer::DONE
+            }),
+        ],
+    );
+    table.failed += usize::from(library != rust);
+}
+
+/// With the result one place too short everything is judged, and nothing is
+/// written.
+fn judge(random: &mut Random, instance: u32, table: &mut Table) {
+    let call = cipher_cases::sound(random, instance, BITS, true);
+    let mut rooms = [[0; BITS - 1]; 3];
+    let [library, rust, nested] = &mut rooms;
+    table.compare(
+        "judge",
+        instance,
+        Answer::too_short(5, BITS - 1),
+        &mut || by_library(&call, library),
+        &mut [
+            ("repeats by marks", &mut || {
+                by_rust(&call, rust, cipher::by_marks)
+            }),
+            ("repeats by nested loops", &mut || {
+                by_rust(&call, nested, cipher::by_nested_loops)
+            }),
+        ],
+    );
+}
+
+fn choose(random: &mut Random, instance: u32, table: &mut Table) {
+    let case = cipher_cases::sound_choice(random, instance);
+    let (mut library, mut rust) = (case.row.clone(), case.row.clone());
+    table.compare(
+        "choose",
+        instance,
+        Answer::DONE,
+        &mut || probe::choose(instance, black_box(&case.draws), black_box(&mut library)),
+        &mut [("one row", &mut || {
+            choice::choose(instance, black_box(&case.draws), black_box(&mut rust))
+        })],
+    );
+    table.failed += usize::from(library != rust);
+}
+
+fn ciphers(random: &mut Random) {
+    let mut table = Table::default();
+    for instance in 1..=5 {
+        encipher(random, instance, &mut table);
+    }
+    encipher_kreyvium(random, &mut table);
+    for instance in 1..=5 {
+        judge(random, instance, &mut table);
+    }
+    for instance in [1, 3] {
+        choose(random, instance, &mut table);
+    }
+
+    println!("nanoseconds for a call, records of {BITS} bits, median of {CALL_SAMPLES} samples");
+    println!();
+    println!("call      instance    in Rust                       library         rust    ratio");
+    for line in &table.lines {
+        println!(
+            "{:<9} {:<11} {:<24} {:>12.0} {:>12.0} {:>8.2}",
+            line.call,
+            line.instance,
+            line.way,
+            line.library,
+            line.rust,
+            line.library / line.rust
+        );
+    }
+    if table.failed > 0 {
+        println!();
+        println!(
+            "{} calls answered otherwise: the figures above mean nothing",
+            table.failed
+        );
+    }
+}
+
+fn main() {
+    let mut random = Random::new(20_240_229);
+    netlists(&mut random);
+    println!();
+    ciphers(&mut random);
 }
