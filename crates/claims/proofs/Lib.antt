@@ -1,3 +1,4 @@
 pub mod Decides
 pub mod Gluing
 pub mod Metering
+pub mod Ciphering
