@@ -47,7 +47,7 @@ fn wiring(
 }
 
 // What keystream is lent; room places for the result.
-pub fn keystream(
+pub(crate) fn keystream(
     instance: u32,
     m: u32,
     key: &[u8],
@@ -94,7 +94,7 @@ fn key_bits(key: &[u8], whitening: &[u8]) -> Answer
 }
 
 // What encipher and decipher are lent.
-pub fn encipher(
+pub(crate) fn encipher(
     instance: u32,
     m: u32,
     key: &[u8],

@@ -58,7 +58,7 @@ fn put_bits(
 }
 
 // The same, with room for the variables of any instance.
-pub fn put_rows(instance: u32, key: &[u8], indices: &[u32], whitening: &[u8], out: &mut [u8])
+pub(crate) fn put_rows(instance: u32, key: &[u8], indices: &[u32], whitening: &[u8], out: &mut [u8])
     requires { ⌜ Rows instance (now key) (now indices) (now whitening) 1394 (length (now out)) ⌝ }
     ensures { λ r. ⌜ now (out .exit) ≡ tab (streamBit instance (now (key .entry)) (now (indices .entry)) (now (whitening .entry))) (length (now (out .entry))) ⌝ }
 {

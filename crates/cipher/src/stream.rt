@@ -38,7 +38,7 @@ fn put_block(z: u64, out: &mut [u8])
 }
 
 // The keystream's first bits, one for each place of out.
-pub fn put(key: &[u8], iv: &[u8], out: &mut [u8])
+pub(crate) fn put(key: &[u8], iv: &[u8], out: &mut [u8])
     requires { ⌜ (length (now out) ≤ 64) × (length (now key) ≡ 128) × (length (now iv) ≡ 128) × ((i : ℕ) → getD (now key) i 0 ≤ 1) × ((i : ℕ) → getD (now iv) i 0 ≤ 1) ⌝ }
     ensures { λ r. ⌜ now (out .exit) ≡ streamOf (now (key .entry)) (now (iv .entry)) (length (now (out .entry))) ⌝ }
 {
