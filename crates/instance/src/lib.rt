@@ -3,8 +3,8 @@
 // them in a row, in 01's order. `list` is the list of the call that is judged.
 use answer::Answer;
 ghost use mathlib.Core.Path.{_≡_};
-ghost use Prim.Native.Nat.{_*_, _%_, _≤_};
-ghost use lib.ListN.{length};
+ghost use Prim.Native.Nat.{ℕ, _*_, _%_, _≤_, _<_};
+ghost use lib.ListN.{length, getD};
 ghost use Rattle.answer.specs.First.{first};
 ghost use Rattle.answer.specs.Bits.{bitsAnswer};
 ghost use Rattle.instance.specs.Table.{sizesOf, rowBits, whiteBits};
@@ -104,10 +104,26 @@ pub fn exact(len: usize, wanted: usize, list: u32) -> Answer
     Answer::Done
 }
 
-// 4: a byte that is no bit.
+// The bytes or'ed together: no byte is above it. The compiler does many at a time.
+fn joined(s: &[u8]) -> u8
+    ensures { λ r. ⌜ ((k : ℕ) → k < length (now (s .entry)) → getD (now (s .entry)) k 0 ≤ r) ⌝ }
+{
+    let mut all: u8 = 0;
+    let mut i: usize = 0;
+    while i < s.len() {
+        all = all | s[i];
+        i += 1;
+    }
+    all
+}
+
+// 4: a byte that is no bit. The walk is taken only where there is one.
 pub fn bits(s: &[u8], list: u32) -> Answer
     ensures { λ r. ⌜ r ≡ bitsAnswer list (now (s .entry)) ⌝ }
 {
+    if joined(s) <= 1 {
+        return Answer::Done;
+    }
     let place = answer::first_no_bit(s);
     if place < s.len() {
         return Answer::Refused {
