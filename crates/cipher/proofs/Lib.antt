@@ -3,3 +3,4 @@ pub mod Accepted
 pub mod Sums
 pub mod Block
 pub mod Written
+pub mod Halves

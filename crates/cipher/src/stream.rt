@@ -5,13 +5,37 @@ ghost use lib.ListN.{length, getD, take, drop};
 ghost use Rattle.kreyvium.specs.Words.{packed, tops};
 ghost use Rattle.kreyvium.specs.Kreyvium.{streamOf};
 
-fn wide(b: u8) -> u64
-    ensures { λ r. ⌜ r ≡ b ⌝ }
+// One bit of a list as a number; then two, four and eight from a place on, the first bit lowest. Two halves are
+// packed side by side, so that no sum waits for all that came before.
+fn one(s: &[u8], at: usize) -> u64
+    requires { ⌜ (at + 1 ≤ length (now s)) × ((i : ℕ) → getD (now s) i 0 ≤ 1) ⌝ }
+    ensures { λ r. ⌜ r ≡ packed (take 1 (drop at (now (s .entry)))) ⌝ }
 {
-    b as u64
+    s[at] as u64
 }
 
-// 64 bits of a list, from a place on, as a word: the first bit lowest.
+fn two(s: &[u8], at: usize) -> u64
+    requires { ⌜ (at + 2 ≤ length (now s)) × ((i : ℕ) → getD (now s) i 0 ≤ 1) ⌝ }
+    ensures { λ r. ⌜ r ≡ packed (take 2 (drop at (now (s .entry)))) ⌝ }
+{
+    one(s, at) + one(s, at + 1) * 2
+}
+
+fn four(s: &[u8], at: usize) -> u64
+    requires { ⌜ (at + 4 ≤ length (now s)) × ((i : ℕ) → getD (now s) i 0 ≤ 1) ⌝ }
+    ensures { λ r. ⌜ r ≡ packed (take 4 (drop at (now (s .entry)))) ⌝ }
+{
+    two(s, at) + two(s, at + 2) * 4
+}
+
+fn eight(s: &[u8], at: usize) -> u64
+    requires { ⌜ (at + 8 ≤ length (now s)) × ((i : ℕ) → getD (now s) i 0 ≤ 1) ⌝ }
+    ensures { λ r. ⌜ r ≡ packed (take 8 (drop at (now (s .entry)))) ⌝ }
+{
+    four(s, at) + four(s, at + 4) * 16
+}
+
+// 64 bits, eight at a time.
 fn word(s: &[u8], from: usize) -> u64
     requires { ⌜ (from + 64 ≤ length (now s)) × ((i : ℕ) → getD (now s) i 0 ≤ 1) ⌝ }
     ensures { λ r. ⌜ r ≡ packed (take 64 (drop from (now (s .entry)))) ⌝ }
@@ -19,8 +43,8 @@ fn word(s: &[u8], from: usize) -> u64
     let mut w: u64 = 0;
     let mut i: usize = 64;
     while 0 < i {
-        i -= 1;
-        w = w * 2 + wide(s[from + i]);
+        i -= 8;
+        w = w * 256 + eight(s, from + i);
     }
     w
 }
