@@ -7,7 +7,7 @@ ghost use Rattle.filter.specs.Filter.{prod, sumOf, ones};
 ghost use Rattle.filter.specs.Instances.{degreesOf, tailOf, filterOf};
 
 // The degrees of the monomials, in order: 42 linear, 64 pairs, 8 triangles of degree 9.
-const FLIP_530: [u8; 178] = [
+pub const FLIP_530: [u8; 178] = [
     1,
     1,
     1,
@@ -189,7 +189,7 @@ const FLIP_530: [u8; 178] = [
 ];
 
 // 82 linear, 112 pairs, 8 triangles of degree 16.
-const FLIP_1394: [u8; 322] = [
+pub const FLIP_1394: [u8; 322] = [
     1,
     1,
     1,
@@ -515,7 +515,7 @@ const FLIP_1394: [u8; 322] = [
 ];
 
 // 128 of degree 1, 64 of degree 2, 80 of degree 4, 80 of degree 8.
-const FILIP_1216: [u8; 352] = [
+pub const FILIP_1216: [u8; 352] = [
     1,
     1,
     1,
@@ -871,7 +871,7 @@ const FILIP_1216: [u8; 352] = [
 ];
 
 // 128 of degree 1, 64 of degree 2, 64 of degree 16.
-const FILIP_1280: [u8; 256] = [
+pub const FILIP_1280: [u8; 256] = [
     1,
     1,
     1,
@@ -1131,7 +1131,7 @@ const FILIP_1280: [u8; 256] = [
 ];
 
 // 81 of degree 1; a threshold over the other variables follows.
-const FILIP_144: [u8; 81] = [
+pub const FILIP_144: [u8; 81] = [
     1,
     1,
     1,

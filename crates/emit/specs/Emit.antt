@@ -1,0 +1,49 @@
+-- What the three calls of emission answer and leave. Document 01, "What is emitted" and "Answer numbers".
+use Prim.Native.Nat.{ℕ, _+_, _*_}
+use mathlib.Core.Path.{_≡_}
+use mathlib.Core.Bool.{Bool, true}
+use mathlib.Core.List.{List}
+use lib.ListN.{length}
+use lib.Dec.{ltb, eqb}
+use Rattle.answer.specs.declared.Answer.{Answer}
+use Rattle.answer.specs.Answers.{_▹_, refuse}
+use Rattle.answer.specs.Bits.{bitsAnswer}
+use Rattle.answer.specs.Choose.{choose}
+use Rattle.answer.specs.Fronts.{left}
+use Rattle.netlist.specs.Net.{Net}
+use Rattle.netlist.specs.Words.{words}
+use Rattle.instance.specs.Table.{keyBits, rowBits, whiteBits}
+use Rattle.instance.specs.Judging.{numbersAnswer, lengthAnswer, rowsAnswer, whiteAnswer, roomAnswer}
+use Rattle.cells.specs.Cells.{oneHotNet, thresholdNet}
+use Rattle.wiring.specs.Exp.{chain}
+use Rattle.wiring.specs.Decipher.{rowsNet}
+use Rattle.rounds.specs.Gates.{kreyviumNet}
+
+-- 13: n above 64; 8 on the result, for which so many words are lent
+unfoldable pub oneHotAnswer : ℕ → ℕ → Answer
+oneHotAnswer n room = refuse 13 0 0 (ltb 64 n) ▹ roomAnswer 1 room (length (words (oneHotNet n)))
+
+-- n above 64, d = 0 or d > n+1
+unfoldable pub noThreshold : ℕ → ℕ → Bool
+noThreshold d n = choose (ltb 64 n) true (choose (eqb d 0) true (ltb (n + 1) d))
+
+unfoldable pub thresholdAnswer : ℕ → ℕ → ℕ → Answer
+thresholdAnswer d n room = refuse 13 0 0 (noThreshold d n) ▹ roomAnswer 1 room (length (words (thresholdNet d n)))
+
+-- the deciphering netlist; products are AND chains from the left
+unfoldable pub decipherNet : ℕ → ℕ → List ℕ → List ℕ → Net
+decipherNet inst m idx wh = choose (eqb inst 6) (kreyviumNet wh m) (rowsNet chain inst idx wh m)
+
+-- 1, 2, 3, 4, 5, 6, 7, 8; lists: indices, whitening or IV, result
+unfoldable pub decipherAnswer : ℕ → ℕ → List ℕ → List ℕ → ℕ → Answer
+decipherAnswer inst m idx wh room =
+    numbersAnswer inst m
+    ▹ (lengthAnswer 1 (length idx) (m * rowBits inst) ▹ lengthAnswer 2 (length wh) (whiteBits inst m))
+    ▹ bitsAnswer 2 wh
+    ▹ (rowsAnswer 1 (keyBits inst) (rowBits inst) idx ▹ whiteAnswer 2 inst wh)
+    ▹ roomAnswer 3 room (length (words (decipherNet inst m idx wh)))
+
+-- a call that was due this answer, of this netlist: what it answered and what it left in the result
+pub record Emitted (due : Answer) (net : Net) (out : List ℕ) (r : Answer) (out′ : List ℕ) : Type 0 where
+  pub answered : r ≡ due
+  pub written : out′ ≡ left r (words net) out

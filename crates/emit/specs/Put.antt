@@ -1,0 +1,11 @@
+-- Gates' words stored one after the other.
+use Prim.Native.Nat.{ℕ, _+_}
+use mathlib.Core.List.{List, [], _∷_}
+use lib.Seq.{sets}
+use Rattle.netlist.specs.declared.gate.Gate.{Gate}
+use Rattle.netlist.specs.Gates.{gateWords}
+
+-- the gates' words stored from word at on
+unfoldable pub putGates : List ℕ → ℕ → List Gate → List ℕ
+putGates out at [] = out
+putGates out at (g ∷ gs) = putGates (sets out at (gateWords g)) (at + 4) gs

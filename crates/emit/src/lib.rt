@@ -1,0 +1,2 @@
+// Emission of one-hot, threshold and deciphering netlists: document 01, "What is emitted".
+mod put;

@@ -1,0 +1,54 @@
+// Words stored into the result: a header, gates, outputs. Room is the caller's to see to.
+ghost use mathlib.Core.Path.{_≡_};
+ghost use mathlib.Core.List.{[], _∷_};
+ghost use Prim.Native.Nat.{_+_, _≤_};
+ghost use lib.ListN.{length};
+ghost use lib.Seq.{sets};
+
+// Kinds of gates. Document 01, "Netlists".
+pub(crate) const ZERO: u32 = 0;
+
+pub(crate) const ONE: u32 = 1;
+
+pub(crate) const NOT: u32 = 2;
+
+pub(crate) const XOR: u32 = 3;
+
+pub(crate) const AND: u32 = 4;
+
+pub(crate) const MUX: u32 = 5;
+
+// The counts of inputs, gates and outputs.
+pub(crate) fn put_header(out: &mut [u32], inputs: u32, gates: u32, outputs: u32)
+    requires { ⌜ 3 ≤ length (now out) ⌝ }
+    ensures { λ _. ⌜ now (out .exit) ≡ sets (now (out .entry)) 0 (inputs ∷ gates ∷ outputs ∷ []) ⌝ }
+{
+    out[0] = inputs;
+    out[1] = gates;
+    out[2] = outputs;
+}
+
+// One gate's four words, from word at on.
+pub(crate) fn put_gate(out: &mut [u32], at: usize, kind: u32, a: u32, b: u32, c: u32)
+    requires { ⌜ at + 4 ≤ length (now out) ⌝ }
+    ensures { λ _. ⌜ now (out .exit) ≡ sets (now (out .entry)) at (kind ∷ a ∷ b ∷ c ∷ []) ⌝ }
+{
+    out[at] = kind;
+    out[at + 1] = a;
+    out[at + 2] = b;
+    out[at + 3] = c;
+}
+
+// Words copied from word at on.
+pub(crate) fn put_words(out: &mut [u32], at: usize, words: &[u32])
+    requires { ⌜ at + length (now words) ≤ length (now out) ⌝ }
+    ensures { λ _. ⌜ now (out .exit) ≡ sets (now (out .entry)) at (now (words .entry)) ⌝ }
+{
+    let mut i = at;
+    let mut j: usize = 0;
+    while j < words.len() {
+        out[i] = words[j];
+        i += 1;
+        j += 1;
+    }
+}

@@ -1,0 +1,81 @@
+-- What a wire is to carry, as an expression over wires that are there already: its gates stand in the order in which
+-- document 01 names them, first operand, second operand, the gate over both.
+use Prim.Native.Nat.{ℕ, zero, suc, _+_, _-_, _*_, max}
+use mathlib.Core.Bool.{Bool, true, false}
+use lib.Dec.{leb, ltb}
+use mathlib.Core.List.{List, [], _∷_}
+use lib.ListN.{length, getD, take, drop}
+use Rattle.netlist.specs.declared.gate.Gate.the-variants.{Xor, And}
+use Rattle.netlist.specs.Part.{Part, past, input, join}
+use Rattle.cells.specs.Cells.{thresholdPart}
+use Rattle.cells.specs.Loop.{pos}
+
+-- least d ws: at least d of the wires ws carry 1
+pub data Exp : Type 0 where
+  wire : ℕ → Exp
+  sum : Exp → Exp → Exp
+  times : Exp → Exp → Exp
+  least : ℕ → List ℕ → Exp
+
+-- the gates, from wire next on
+unfoldable pub emit : ℕ → Exp → Part
+emit next (wire w) = input w
+emit next (sum a b) = join Xor next (emit next a) (emit (past next (emit next a)) b)
+emit next (times a b) = join And next (emit next a) (emit (past next (emit next a)) b)
+emit next (least d ws) = thresholdPart next d ws
+
+-- A way of splitting a product: one factor, or two products.
+pub data Split : Type 0 where
+  one : Split
+  two : Split → Split → Split
+
+unfoldable pub factors : Split → ℕ
+factors one = 1
+factors (two a b) = factors a + factors b
+
+-- document 01: from the left, the running product first
+unfoldable pub chain : ℕ → Split
+chain zero = one
+chain (suc zero) = one
+chain (suc (suc k)) = two (chain (suc k)) one
+
+-- the product of wires
+unfoldable pub product : Split → List ℕ → Exp
+product one ws = wire (getD ws 0 0)
+product (two a b) ws = times (product a (take (factors a) ws)) (product b (drop (factors a) ws))
+
+-- monomials of the given degrees, over wires taken in order, each once, added to a running sum
+unfoldable pub addAll : (ℕ → Split) → Exp → List ℕ → List ℕ → Exp
+addAll S acc [] ws = acc
+addAll S acc (d ∷ ds) ws = addAll S (sum acc (product (S d) (take d ws))) ds (drop d ws)
+
+unfoldable pub monomials : (ℕ → Split) → List ℕ → List ℕ → Exp
+monomials S [] ws = wire 0
+monomials S (d ∷ ds) ws = addAll S (product (S d) (take d ws)) ds (drop d ws)
+
+-- what an expression makes of what its wires carry is in proofs/Exps.antt; what it costs:
+unfoldable pub muls : Exp → ℕ
+muls (wire w) = 0
+muls (sum a b) = muls a + muls b
+muls (times a b) = muls a + muls b + 1
+muls (least d ws) = (d + 1) * (length ws - d + 1) - 2 - pos (length ws - d)
+
+unfoldable pub deep : Exp → ℕ
+deep (wire w) = 0
+deep (sum a b) = max (deep a) (deep b)
+deep (times a b) = suc (max (deep a) (deep b))
+deep (least d ws) = length ws - 1
+
+-- ANDs that follow each other
+unfoldable pub height : Split → ℕ
+height one = 0
+height (two a b) = suc (max (height a) (height b))
+
+abbrev pub both : Bool → Bool → Bool
+both true b = b
+both false b = false
+
+-- degrees from 1 on that n wires suffice for: a test that computes
+unfoldable pub fits : List ℕ → ℕ → Bool
+fits [] n = true
+fits (d ∷ ds) n = both (ltb 0 d) (both (leb d n) (fits ds (n - d)))
