@@ -10,7 +10,7 @@ pub two-of-three : thresholdNet 2 3 ≡ record { inputs = 3; gates = Not 0 ∷ M
 unfolding cellGates rowGates sumGates levelGates levelAfter firstGates firstLevel levelsGates levelsEnd allGates lastLevel thresholdPart thresholdNet
 two-of-three = refl
 
-one-of-one : thresholdNet 1 1 ≡ record { inputs = 1; gates = []; outs = 0 ∷ [] }
+pub one-of-one : thresholdNet 1 1 ≡ record { inputs = 1; gates = []; outs = 0 ∷ [] }
 unfolding cellGates rowGates sumGates levelGates levelAfter firstGates firstLevel levelsGates levelsEnd allGates lastLevel thresholdPart thresholdNet
 one-of-one = refl
 
@@ -22,6 +22,10 @@ one-hot-of-two : oneHotNet 2 ≡ record { inputs = 2; gates = Not 0 ∷ Not 1 �
 unfolding cellGates rowGates sumGates levelGates levelAfter firstGates firstLevel levelsGates levelsEnd allGates lastLevel oneHotNet
 one-hot-of-two = refl
 
-one-hot-of-one : oneHotNet 1 ≡ record { inputs = 1; gates = Not 0 ∷ []; outs = 1 ∷ 0 ∷ [] }
+pub one-hot-of-one : oneHotNet 1 ≡ record { inputs = 1; gates = Not 0 ∷ []; outs = 1 ∷ 0 ∷ [] }
 unfolding firstGates firstLevel levelsGates levelsEnd allGates lastLevel oneHotNet
 one-hot-of-one = refl
+
+pub one-hot-of-none : oneHotNet 0 ≡ record { inputs = 0; gates = One ∷ []; outs = 0 ∷ [] }
+unfolding oneHotNet
+one-hot-of-none = refl
