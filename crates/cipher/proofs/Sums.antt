@@ -6,9 +6,9 @@ use native.Mathlib.Omega.{arith}
 use native.Mathlib.Numerals.{add-one}
 use lib.ListN.{length, getD, set, take, drop, length-take}
 use lib.Seq.{take-suc, length-take-le, take-all, getD-append-add, getD-drop}
+use Rattle.answer.specs.Bits.{added}
 use Rattle.answer.specs.Fronts.{over}
 use Rattle.answer.proofs.Over.{over-next}
-use Rattle.cipher.specs.Cipher.{added}
 
 pub added-length : (xs ks : List ℕ) → length xs ≤ length ks → length (added xs ks) ≡ length xs
 unfolding added

@@ -7,6 +7,7 @@ use native.Mathlib.Omega.{arith}
 use mathlib.Core.Bool.{not}
 use lib.ListN.{length, getD, take}
 use borrow.Author.Tests.{eq-eqb, le-ltb}
+use Rattle.answer.specs.Bits.{added}
 use Rattle.answer.specs.declared.Answer.{Answer}
 use Rattle.answer.specs.declared.Answer.the-variants.{Done}
 use Rattle.answer.specs.Fronts.{over, left}
@@ -15,7 +16,7 @@ use Rattle.answer.proofs.Search.{done-bits}
 use Rattle.answer.proofs.Over.{take-over, made}
 use Rattle.instance.specs.Judging.{lengthAnswer, roomAnswer}
 use Rattle.cipher.specs.Judging.{wiringAnswer, encipherAnswer}
-use Rattle.cipher.specs.Cipher.{keystreamOf, added, encipherOf, Ciphered}
+use Rattle.cipher.specs.Cipher.{keystreamOf, encipherOf, Ciphered}
 use Rattle.cipher.proofs.Sums.{added-length, added-twice}
 use Rattle.cipher.proofs.Accepted.{encipher-lent}
 use Rattle.cipher.proofs.Written.{keystream-length}

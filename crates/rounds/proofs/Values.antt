@@ -5,6 +5,7 @@ use Prim.Native.Nat.{ℕ, zero, suc, _+_, _*_, _%_, _≤_, _<_}
 use native.Mathlib.Omega.{arith}
 use native.Mathlib.Nat.{mod-add-mod, add-mod-mod}
 use lib.ListN.{length, getD}
+use Rattle.answer.specs.Bits.{added}
 use Rattle.netlist.specs.Net.{valAlg, eval}
 use Rattle.netlist.proofs.Bits.{Bits}
 use Rattle.kreyvium.specs.Kreyvium.{Registers, sA, sB, sC, k0, t1, t2, t3, roundOf, outOf, loaded, rounds, stream, streamOf}
@@ -97,14 +98,8 @@ unfolding rounds
 rounds-bits zero s h = h
 rounds-bits (suc n) s h = rounds-bits n (roundOf s) (round-bits s h)
 
--- a record and a keystream added, place by place
-unfoldable pub sums : List ℕ → List ℕ → List ℕ
-sums [] ks = []
-sums (x ∷ xs) [] = []
-sums (x ∷ xs) (k ∷ ks) = (x + k) % 2 ∷ sums xs ks
-
-added-same : (rec : List ℕ) (s : Registers ℕ) → Bits rec → All Bit s → addedA valAlg rec s ≡ sums rec (stream (length rec) s)
-unfolding addedA sums stream
+added-same : (rec : List ℕ) (s : Registers ℕ) → Bits rec → All Bit s → addedA valAlg rec s ≡ added rec (stream (length rec) s)
+unfolding addedA added stream
 added-same [] s g h = refl
 added-same (x ∷ rec) s g h =
     ap₂ _∷_ (out-same s h x (g 0))
@@ -118,7 +113,7 @@ bits-same (suc zero ∷ iv) h = ap (λ (l : List ℕ). 1 ∷ l) (bits-same iv (�
 bits-same (suc (suc b) ∷ iv) h = absurd (omega (arith, h 0))
 
 right : (key iv rec : List ℕ) → length key ≡ 128 → length iv ≡ 128 → Bits key → Bits iv → Bits rec
-    → eval (kreyviumNet iv (length rec)) (key ++ rec) ≡ sums rec (streamOf key iv (length rec))
+    → eval (kreyviumNet iv (length rec)) (key ++ rec) ≡ added rec (streamOf key iv (length rec))
 unfolding cipheredA streamOf
 right key iv rec hk hv bk bv br =
     let s = loaded 0 1 key iv in
@@ -130,19 +125,19 @@ right key iv rec hk hv bk bv br =
 
 -- THE VALUE: on a key and a record, the netlist gives the record with the keystream of that key and this IV added
 pub kreyvium-right : (key iv rec : List ℕ) (m : ℕ) → length key ≡ 128 → length iv ≡ 128 → length rec ≡ m → Bits key → Bits iv → Bits rec
-    → eval (kreyviumNet iv m) (key ++ rec) ≡ sums rec (streamOf key iv m)
+    → eval (kreyviumNet iv m) (key ++ rec) ≡ added rec (streamOf key iv m)
 kreyvium-right key iv rec m hk hv hr bk bv br = rw (sym hr) (right key iv rec hk hv bk bv br)
 
 -- and so bit i
-sums-at : (xs ks : List ℕ) (i : ℕ) → i < length xs → i < length ks → getD (sums xs ks) i 0 ≡ (getD xs i 0 + getD ks i 0) % 2
-unfolding sums
-sums-at [] ks i h g = absurd (omega arith)
-sums-at (x ∷ xs) [] i h g = absurd (omega arith)
-sums-at (x ∷ xs) (k ∷ ks) zero h g = refl
-sums-at (x ∷ xs) (k ∷ ks) (suc i) h g = sums-at xs ks i (omega arith) (omega arith)
+added-at : (xs ks : List ℕ) (i : ℕ) → i < length xs → i < length ks → getD (added xs ks) i 0 ≡ (getD xs i 0 + getD ks i 0) % 2
+unfolding added
+added-at [] ks i h g = absurd (omega arith)
+added-at (x ∷ xs) [] i h g = absurd (omega arith)
+added-at (x ∷ xs) (k ∷ ks) zero h g = refl
+added-at (x ∷ xs) (k ∷ ks) (suc i) h g = added-at xs ks i (omega arith) (omega arith)
 
 pub kreyvium-bit : (key iv rec : List ℕ) (m : ℕ) → length key ≡ 128 → length iv ≡ 128 → length rec ≡ m → Bits key → Bits iv → Bits rec → (i : ℕ) → i < m
     → getD (eval (kreyviumNet iv m) (key ++ rec)) i 0 ≡ (getD rec i 0 + getD (streamOf key iv m) i 0) % 2
 kreyvium-bit key iv rec m hk hv hr bk bv br i h =
     ap (λ (l : List ℕ). getD l i 0) (kreyvium-right key iv rec m hk hv hr bk bv br)
-    ∙ sums-at rec (streamOf key iv m) i (omega arith) (omega (arith, streamOf-length key iv m))
+    ∙ added-at rec (streamOf key iv m) i (omega arith) (omega (arith, streamOf-length key iv m))
