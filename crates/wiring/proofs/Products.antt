@@ -26,6 +26,11 @@ chain-splits zero h = absurd (omega arith)
 chain-splits (suc zero) h = refl
 chain-splits (suc (suc k)) h = omega (arith, chain-splits (suc k) (omega arith))
 
+pub chain-height : (k : ℕ) → height (chain (suc k)) ≡ k
+unfolding chain height
+chain-height zero = refl
+chain-height (suc k) = ap suc (omega (arith, chain-height k))
+
 pub all-take : {X : Type 0} (P : X → Type 0) (n : ℕ) (xs : List X) → All P xs → All P (take n xs)
 all-take P zero xs a = tt
 all-take P (suc n) [] a = tt

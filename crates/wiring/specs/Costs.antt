@@ -4,7 +4,7 @@ use lib.ListN.{length}
 use Rattle.cells.specs.Loop.{pos}
 use Rattle.wiring.specs.Exp.{Exp, wire, sum, times, least, Split, one, two}
 
--- one bit: its multiplications, its depth, and its gates without the NOTs of its whitening
+-- one bit, its products as chains: multiplications, depth, and gates without the NOTs of its whitening
 pub record Cost : Type 0 where
   pub mults : ℕ
   pub depth : ℕ
