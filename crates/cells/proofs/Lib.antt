@@ -1,2 +1,7 @@
-pub mod Samples
+pub mod Bits
+pub mod Costs
+pub mod Placed
 pub mod Same
+pub mod Samples
+pub mod Thr
+pub mod Wiring

@@ -96,15 +96,15 @@ unfolding rowGates cellGates
 row-length zero i x b w j = refl
 row-length (suc n) i x b w j = ap suc (row-length n i x b _ (suc j))
 
-length-low : (l x a next : ℕ) → length (lowGates l x a next) ≡ 2 * pos l
+pub length-low : (l x a next : ℕ) → length (lowGates l x a next) ≡ 2 * pos l
 length-low zero x a next = refl
 length-low (suc l) x a next = refl
 
-length-tail : (m x a s : ℕ) → length (tail x a s m) ≡ m + 1
+pub length-tail : (m x a s : ℕ) → length (tail x a s m) ≡ m + 1
 length-tail zero x a s = refl
 length-tail (suc m) x a s = omega (arith, length-tail m x s (s + 1))
 
-length-sum : (h t s : ℕ) → length (sumGates h t s) ≡ 1 - pos h
+pub length-sum : (h t s : ℕ) → length (sumGates h t s) ≡ 1 - pos h
 length-sum zero t s = refl
 length-sum (suc h) t s = refl
 
