@@ -10,22 +10,16 @@ use lib.Dec.{eqb, leb}
 use borrow.Author.Tests.{le-leb, lt-leb, eqb-true, eqb-false}
 use native.Mathlib.Decide.{decLe}
 use Rattle.answer.specs.Choose.{choose}
-use Rattle.netlist.specs.Net.{Alg, valAlg}
+use Rattle.netlist.specs.Net.{valAlg}
 use Rattle.netlist.proofs.Bits.{Bits}
 use Rattle.filter.specs.Filter.{ones}
 use Rattle.cells.specs.Loop.{pos, down}
 use Rattle.cells.proofs.Wiring.{muxes, muxesFrom, lastFrom, top, topCell, newRow, newSum, endRow, endSum, firstRow, cells-left, enough-next}
 
-abbrev pub bits : Alg ℕ
-bits = valAlg
-
-abbrev pub bneg : ℕ → ℕ
-bneg a = valAlg .neg a
-
-abbrev pub bsum : ℕ → ℕ → ℕ
+abbrev bsum : ℕ → ℕ → ℕ
 bsum a b = valAlg .xor a b
 
-abbrev pub bprod : ℕ → ℕ → ℕ
+abbrev bprod : ℕ → ℕ → ℕ
 bprod a b = valAlg .and a b
 
 -- 1 where the two are equal
@@ -102,59 +96,59 @@ ge-same zero (suc w) h = absurd (omega arith)
 ge-same (suc t) zero h = refl
 ge-same (suc t) (suc w) h = ge-same t w (omega arith)
 
-mux-0 : (p : ℕ) (vs : List ℕ) → muxesFrom bits 0 p vs ≡ vs
+mux-0 : (p : ℕ) (vs : List ℕ) → muxesFrom valAlg 0 p vs ≡ vs
 mux-0 p [] = refl
 mux-0 p (v ∷ vs) = ap (λ (z : List ℕ). v ∷ z) (mux-0 v vs)
 
-mux-1 : (m j w : ℕ) → muxesFrom bits 1 (same j w) (hots (suc j) w m) ≡ hots (suc j) (suc w) m
+mux-1 : (m j w : ℕ) → muxesFrom valAlg 1 (same j w) (hots (suc j) w m) ≡ hots (suc j) (suc w) m
 mux-1 zero j w = refl
 mux-1 (suc m) j w = ap (λ (z : List ℕ). same j w ∷ z) (mux-1 m (suc j) w)
 
-last-hots : (m j w : ℕ) → lastFrom bits (same j w) (hots (suc j) w m) ≡ same (j + m) w
+last-hots : (m j w : ℕ) → lastFrom valAlg (same j w) (hots (suc j) w m) ≡ same (j + m) w
 last-hots zero j w = ap (λ (n : ℕ). same n w) (sym (add-zero j))
 last-hots (suc m) j w = last-hots m (suc j) w ∙ same-at (suc j + m) (j + suc m) w (omega arith)
 
-hots-snoc : (m j w : ℕ) → hots j w m ++ (same (j + m) w ∷ []) ≡ hots j w (suc m)
+pub hots-snoc : (m j w : ℕ) → hots j w m ++ (same (j + m) w ∷ []) ≡ hots j w (suc m)
 hots-snoc zero j w = ap (λ (n : ℕ). same n w ∷ []) (add-zero j)
 hots-snoc (suc m) j w = ap (λ (z : List ℕ). same j w ∷ z) (ap (λ (n : ℕ). hots (suc j) w m ++ (n ∷ [])) (same-at (j + suc m) (suc j + m) w (omega arith)) ∙ hots-snoc m (suc j) w)
 
 -- the cells over the muxes, at each input
 top-0 : (h m j w : ℕ) → (2 ≤ h → w ≤ j + m)
-    → muxes bits 0 (hots j w (suc m)) ++ topCell bits h (top bits 0 (hots j w (suc m))) ≡ hots (suc j) w (m + pos (down h))
+    → muxes valAlg 0 (hots j w (suc m)) ++ topCell valAlg h (top valAlg 0 (hots j w (suc m))) ≡ hots (suc j) w (m + pos (down h))
 top-0 zero m j w e = rw (mux-0 (same j w) (hots (suc j) w m)) (append-nil _ ∙ hots-at (suc j) w m (m + 0) (omega arith))
 top-0 (suc zero) m j w e = rw (mux-0 (same j w) (hots (suc j) w m)) (append-nil _ ∙ hots-at (suc j) w m (m + 0) (omega arith))
 top-0 (suc (suc h)) m j w e =
-    let z : bprod (lastFrom bits (same j w) (hots (suc j) w m)) 0 ≡ same (suc j + m) w = prod-zero (lastFrom bits (same j w) (hots (suc j) w m)) ∙ sym (same-more (suc j + m) w (let u = e (omega arith) in omega arith)) in
+    let z : bprod (lastFrom valAlg (same j w) (hots (suc j) w m)) 0 ≡ same (suc j + m) w = prod-zero (lastFrom valAlg (same j w) (hots (suc j) w m)) ∙ sym (same-more (suc j + m) w (let u = e (omega arith) in omega arith)) in
     rw (mux-0 (same j w) (hots (suc j) w m), z) (hots-snoc m (suc j) w ∙ hots-at (suc j) w (suc m) (m + 1) (omega arith))
 
 top-1 : (h m j w : ℕ)
-    → muxes bits 1 (hots j w (suc m)) ++ topCell bits h (top bits 1 (hots j w (suc m))) ≡ hots (suc j) (suc w) (m + pos (down h))
+    → muxes valAlg 1 (hots j w (suc m)) ++ topCell valAlg h (top valAlg 1 (hots j w (suc m))) ≡ hots (suc j) (suc w) (m + pos (down h))
 top-1 zero m j w = rw (mux-1 m j w) (append-nil _ ∙ hots-at (suc j) (suc w) m (m + 0) (omega arith))
 top-1 (suc zero) m j w = rw (mux-1 m j w) (append-nil _ ∙ hots-at (suc j) (suc w) m (m + 0) (omega arith))
 top-1 (suc (suc h)) m j w =
-    let z : bprod (lastFrom bits (same j w) (hots (suc j) w m)) 1 ≡ same (suc j + m) (suc w) =
+    let z : bprod (lastFrom valAlg (same j w) (hots (suc j) w m)) 1 ≡ same (suc j + m) (suc w) =
     ap (λ (v : ℕ). bprod v 1) (last-hots m j w) ∙ same-one (j + m) w ∙ same-at (suc (j + m)) (suc j + m) (suc w) (omega arith) in
     rw (mux-1 m j w, z) (hots-snoc m (suc j) (suc w) ∙ hots-at (suc j) (suc w) (suc m) (m + 1) (omega arith))
 
 -- a level's row
 pub row-bits : (l h x m j w : ℕ) → x ≤ 1 → (0 < l → j ≡ 0) → (2 ≤ h → w ≤ j + m)
-    → newRow bits l h x (hots j w (suc m)) ≡ hots (j + 1 - pos l) (x + w) (pos l + m + pos (down h))
+    → newRow valAlg l h x (hots j w (suc m)) ≡ hots (j + 1 - pos l) (x + w) (pos l + m + pos (down h))
 row-bits zero h zero m j w hx hl hh = top-0 h m j w hh ∙ hots-both (suc j) (j + 1 - 0) w (0 + w) (m + pos (down h)) (0 + m + pos (down h)) (omega arith) (omega arith) (omega arith)
 row-bits zero h (suc zero) m j w hx hl hh = top-1 h m j w ∙ hots-both (suc j) (j + 1 - 0) (suc w) (1 + w) (m + pos (down h)) (0 + m + pos (down h)) (omega arith) (omega arith) (omega arith)
 row-bits (suc l) h zero m j w hx hl hh =
-    cons-both (bprod (same j w) 1) (same j w) (muxes bits 0 (hots j w (suc m)) ++ topCell bits h (top bits 0 (hots j w (suc m)))) (hots (suc j) w (m + pos (down h))) (same-one j w) (top-0 h m j w hh)
+    cons-both (bprod (same j w) 1) (same j w) (muxes valAlg 0 (hots j w (suc m)) ++ topCell valAlg h (top valAlg 0 (hots j w (suc m)))) (hots (suc j) w (m + pos (down h))) (same-one j w) (top-0 h m j w hh)
     ∙ hots-both j (j + 1 - 1) w (0 + w) (suc (m + pos (down h))) (1 + m + pos (down h)) (omega arith) (omega arith) (omega arith)
 row-bits (suc l) h (suc zero) m j w hx hl hh =
-    cons-both (bprod (same j w) 0) (same j (suc w)) (muxes bits 1 (hots j w (suc m)) ++ topCell bits h (top bits 1 (hots j w (suc m)))) (hots (suc j) (suc w) (m + pos (down h)))
+    cons-both (bprod (same j w) 0) (same j (suc w)) (muxes valAlg 1 (hots j w (suc m)) ++ topCell valAlg h (top valAlg 1 (hots j w (suc m)))) (hots (suc j) (suc w) (m + pos (down h)))
     (prod-zero (same j w) ∙ same-at 0 j (suc w) (sym (hl (omega arith)))) (top-1 h m j w)
     ∙ hots-both j (j + 1 - 1) (suc w) (1 + w) (suc (m + pos (down h))) (1 + m + pos (down h)) (omega arith) (omega arith) (omega arith)
 row-bits l h (suc (suc x)) m j w hx hl hh = absurd (omega arith)
 
 -- the last AND at each input
-and-0 : (m j w : ℕ) → top bits 0 (hots j w (suc m)) ≡ 0
-and-0 m j w = prod-zero (lastFrom bits (same j w) (hots (suc j) w m))
+and-0 : (m j w : ℕ) → top valAlg 0 (hots j w (suc m)) ≡ 0
+and-0 m j w = prod-zero (lastFrom valAlg (same j w) (hots (suc j) w m))
 
-and-1 : (m j w t : ℕ) → j + m ≡ t → top bits 1 (hots j w (suc m)) ≡ same t w
+and-1 : (m j w t : ℕ) → j + m ≡ t → top valAlg 1 (hots j w (suc m)) ≡ same t w
 and-1 m j w t e = ap (λ (v : ℕ). bprod v 1) (last-hots m j w) ∙ same-one (j + m) w ∙ same-at (j + m) t w e
 
 ge-at : (t v w : ℕ) → v ≡ w → ge t v ≡ ge t w
@@ -162,7 +156,7 @@ ge-at t v w e = ap (ge t) e
 
 -- the sum that goes on from level d: 1 exactly where the weight so far is at least d, which is t + 1
 sum-bits : (h x m j w t s : ℕ) → x ≤ 1 → h ≤ 1 → j + m ≡ t → (h ≡ 0 → s ≡ ge (suc t) w) → (0 < h → w ≤ j + m)
-    → newSum bits h (top bits x (hots j w (suc m))) s ≡ ge (suc t) (x + w)
+    → newSum valAlg h (top valAlg x (hots j w (suc m))) s ≡ ge (suc t) (x + w)
 sum-bits zero zero m j w t s hx hh ht hs hw = ap (λ (z : ℕ). bsum z s) (and-0 m j w) ∙ ap (bsum 0) (hs refl) ∙ sum-ge (suc t) w ∙ ge-at (suc t) w (0 + w) (omega arith)
 sum-bits zero (suc zero) m j w t s hx hh ht hs hw =
     ap (λ (z : ℕ). bsum z s) (and-1 m j w t ht) ∙ ap (bsum (same t w)) (hs refl) ∙ ge-step t w ∙ ge-at (suc t) (suc w) (1 + w) (omega arith)
@@ -180,10 +174,10 @@ pub record Hot (k l h m j w : ℕ) (r : List ℕ) : Type 0 where
   pub enough : k ≤ m + l + max h 1
 
 hot-next : (k l h m j w x : ℕ) (r : List ℕ) → x ≤ 1 → Hot (suc k) l h m j w r
-    → Hot k (down l) (down h) (pos l + m + pos (down h) - 1) (j + 1 - pos l) (x + w) (newRow bits l h x r)
+    → Hot k (down l) (down h) (pos l + m + pos (down h) - 1) (j + 1 - pos l) (x + w) (newRow valAlg l h x r)
 hot-next k l h m j w x r hx c = record {
   rowIs = λ hk. let y = cells-left k l h m (c .enough) hk in
-      ap (newRow bits l h x) (c .rowIs (omega arith)) ∙ row-bits l h x m j w hx (c .low) (λ h2. c .high (omega arith))
+      ap (newRow valAlg l h x) (c .rowIs (omega arith)) ∙ row-bits l h x m j w hx (c .low) (λ h2. c .high (omega arith))
       ∙ hots-at (j + 1 - pos l) (x + w) (pos l + m + pos (down h)) (suc (pos l + m + pos (down h) - 1)) (omega arith);
   low = low′ l j (c .low);
   high = high′ l h m j w x hx (c .low) (c .high);
@@ -219,19 +213,19 @@ top-next k (suc l) (suc (suc h)) m j d f e p q = omega arith
 
 -- the sum after the last level
 pub end-sum : (xs : List ℕ) (l h m j w t s : ℕ) (r : List ℕ) → Bits xs → Hot (length xs) l h m j w r → h ≤ length xs
-    → (0 < length xs → j + m + max h 1 ≡ suc t) → (h ≡ 0 → s ≡ ge (suc t) w) → endSum bits l h r s xs ≡ ge (suc t) (w + weight xs)
+    → (0 < length xs → j + m + max h 1 ≡ suc t) → (h ≡ 0 → s ≡ ge (suc t) w) → endSum valAlg l h r s xs ≡ ge (suc t) (w + weight xs)
 end-sum [] l h m j w t s r b c e f g = g (omega arith) ∙ ge-at (suc t) w (w + 0) (omega arith)
 end-sum (x ∷ xs) l h m j w t s r b c e f g =
-    end-sum xs (down l) (down h) (pos l + m + pos (down h) - 1) (j + 1 - pos l) (x + w) t (newSum bits h (top bits x r) s) (newRow bits l h x r) (λ i. b (suc i)) (hot-next (length xs) l h m j w x r (b 0) c)
+    end-sum xs (down l) (down h) (pos l + m + pos (down h) - 1) (j + 1 - pos l) (x + w) t (newSum valAlg h (top valAlg x r) s) (newRow valAlg l h x r) (λ i. b (suc i)) (hot-next (length xs) l h m j w x r (b 0) c)
     (down-le h (length xs) e)
     (λ hk. top-next (length xs) l h m j (suc t) (c .low) (c .enough) hk (f (omega arith)))
     (λ h0. let u = down-0 h h0 in let v = f (omega arith) in
-    ap (λ (z : List ℕ). newSum bits h (top bits x z) s) (c .rowIs (omega arith)) ∙ sum-bits h x m j w t s (b 0) u (omega arith) g (c .high))
+    ap (λ (z : List ℕ). newSum valAlg h (top valAlg x z) s) (c .rowIs (omega arith)) ∙ sum-bits h x m j w t s (b 0) u (omega arith) g (c .high))
     ∙ ge-at (suc t) (x + w + weight xs) (w + (x + weight xs)) (omega arith)
 
 -- the row of level 1
 pub hot-first : (x k l t : ℕ) → x ≤ 1 → suc k ≤ l + max (suc t) 1
-    → Hot k (down l) t (pos l + pos t - 1) (1 - pos l) x (firstRow bits l (suc t) x)
+    → Hot k (down l) t (pos l + pos t - 1) (1 - pos l) x (firstRow valAlg l (suc t) x)
 hot-first (suc (suc x)) k l t hx f = absurd (omega arith)
 hot-first zero k zero zero hx f = record { rowIs = λ hk. absurd (omega arith); low = λ e. absurd (omega arith); high = λ e. absurd (omega arith); enough = omega arith }
 hot-first zero k zero (suc t) hx f = record { rowIs = λ hk. refl; low = λ e. absurd (omega arith); high = λ e. omega arith; enough = omega arith }
@@ -255,22 +249,22 @@ top-first k (suc l) (suc t) f e = omega arith
 
 -- the sum over bits: 1 exactly if the weight is at least t + 1
 pub sum-ge-weight : (x : ℕ) (ys : List ℕ) (l t : ℕ) → x ≤ 1 → Bits ys → suc (length ys) ≤ l + max (suc t) 1 → t ≤ length ys
-    → endSum bits (down l) t (firstRow bits l (suc t) x) x ys ≡ ge (suc t) (x + weight ys)
+    → endSum valAlg (down l) t (firstRow valAlg l (suc t) x) x ys ≡ ge (suc t) (x + weight ys)
 sum-ge-weight x ys l t hx b f u =
-    end-sum ys (down l) t (pos l + pos t - 1) (1 - pos l) x t x (firstRow bits l (suc t) x) b
+    end-sum ys (down l) t (pos l + pos t - 1) (1 - pos l) x t x (firstRow valAlg l (suc t) x) b
     (hot-first x (length ys) l t hx f) (omega arith) (λ h. top-first (length ys) l t f (omega arith)) (λ z. one-ge x hx ∙ ap (λ (i : ℕ). ge (suc i) x) (sym z))
 
 -- the row after the last level, where every level keeps both ends
 pub end-row : (xs : List ℕ) (l h m w : ℕ) (r : List ℕ) → Bits xs → Hot (length xs) l h m 0 w r → length xs ≤ l → length xs + 1 ≤ h → r ≡ hots 0 w (suc m)
-    → endRow bits l h r xs ≡ hots 0 (w + weight xs) (suc m + length xs)
+    → endRow valAlg l h r xs ≡ hots 0 (w + weight xs) (suc m + length xs)
 end-row [] l h m w r b c el eh e = e ∙ hots-both 0 0 w (w + 0) (suc m) (suc m + 0) refl (omega arith) (omega arith)
 end-row (x ∷ xs) zero h m w r b c el eh e = absurd (omega arith)
 end-row (x ∷ xs) (suc l) zero m w r b c el eh e = absurd (omega arith)
 end-row (x ∷ xs) (suc l) (suc zero) m w r b c el eh e = absurd (omega arith)
 end-row (x ∷ xs) (suc l) (suc (suc h)) m w r b c el eh e =
     let n = hot-next (length xs) (suc l) (suc (suc h)) m 0 w x r (b 0) c in
-    end-row xs l (suc h) (1 + m + 1 - 1) (x + w) (newRow bits (suc l) (suc (suc h)) x r) (λ i. b (suc i)) n (omega arith) (omega arith)
-    (ap (newRow bits (suc l) (suc (suc h)) x) e ∙ row-bits (suc l) (suc (suc h)) x m 0 w (b 0) (λ f. refl) (λ f. c .high (omega arith))
+    end-row xs l (suc h) (1 + m + 1 - 1) (x + w) (newRow valAlg (suc l) (suc (suc h)) x r) (λ i. b (suc i)) n (omega arith) (omega arith)
+    (ap (newRow valAlg (suc l) (suc (suc h)) x) e ∙ row-bits (suc l) (suc (suc h)) x m 0 w (b 0) (λ f. refl) (λ f. c .high (omega arith))
     ∙ hots-at 0 (x + w) (1 + m + 1) (suc (1 + m + 1 - 1)) (omega arith))
     ∙ hots-both 0 0 (x + w + weight xs) (w + (x + weight xs)) (suc (1 + m + 1 - 1) + length xs) (suc m + suc (length xs)) refl (omega arith) (omega arith)
 

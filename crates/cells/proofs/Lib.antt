@@ -1,5 +1,6 @@
 pub mod Bits
 pub mod Costs
+pub mod Facts
 pub mod Placed
 pub mod Same
 pub mod Samples

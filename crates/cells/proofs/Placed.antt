@@ -7,7 +7,7 @@ use lib.ListN.{length, length-append}
 use Rattle.netlist.specs.Net.{Wired, Below}
 use Rattle.netlist.proofs.Glued.{wired-append}
 use Rattle.cells.specs.Loop.{pos, down, tail, lowGates, sumGates, levels, firstGates, firstWire, cells}
-use Rattle.cells.proofs.Same.{length-low, length-tail, length-sum}
+use Rattle.cells.proofs.Same.{length-low, length-tail, length-sum, length-first}
 use Rattle.cells.proofs.Wiring.{below-more, pos-le, pos-down, cells-left, enough-next, first-enough, first-wire-in}
 
 tail-wired : (m n x a s : ℕ) → x < n → a < n → s + m ≤ n → Wired n (tail x a s m)
@@ -43,10 +43,6 @@ levels-wired (x ∷ xs) l h a s m n sm b hsm ha hs en =
 first-wired : (l n x : ℕ) → x < n → Wired n (firstGates l x)
 first-wired zero n x h = tt
 first-wired (suc l) n x h = (h, tt)
-
-length-first : (l x : ℕ) → length (firstGates l x) ≡ pos l
-length-first zero x = refl
-length-first (suc l) x = refl
 
 pub cells-wired : (x : ℕ) (xs : List ℕ) (l h n : ℕ) → x < n → Below n xs → suc (length xs) ≤ l + max h 1 → Wired n (cells (x ∷ xs) l h n)
 cells-wired x xs l h n hx b f =

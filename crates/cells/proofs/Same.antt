@@ -108,6 +108,10 @@ pub length-sum : (h t s : ℕ) → length (sumGates h t s) ≡ 1 - pos h
 length-sum zero t s = refl
 length-sum (suc h) t s = refl
 
+pub length-first : (l x : ℕ) → length (firstGates l x) ≡ pos l
+length-first zero x = refl
+length-first (suc l) x = refl
+
 -- Before level i: levels up to q keep cell 0, l more of them; j is the first cell kept of the level before.
 pub record Lows (q i l j : ℕ) : Type 0 where
   pub more : 0 < l → l + i ≡ suc q
@@ -446,7 +450,7 @@ threshold-part-loop next d (x ∷ y ∷ ys) h h1 h2 =
     part-some next d ws h2
     ∙ part-eq _ _ e (last-sum (C.someCells d (length ws)) x y ys next (omega arith) ∙ ap (λ (g : List Gate). next + length g - 1) e)
 
-net-of-part : (d n : ℕ) → C.thresholdNet d n ≡ record { inputs = n; gates = C.thresholdPart n d (upFrom 0 n) .gates; outs = C.thresholdPart n d (upFrom 0 n) .out ∷ [] }
+pub net-of-part : (d n : ℕ) → C.thresholdNet d n ≡ record { inputs = n; gates = C.thresholdPart n d (upFrom 0 n) .gates; outs = C.thresholdPart n d (upFrom 0 n) .out ∷ [] }
 unfolding C.thresholdNet
 net-of-part d n = refl
 

@@ -6,7 +6,6 @@ use native.Mathlib.Omega.{arith}
 use lib.ListN.{length, getD, length-append, List·getD-append}
 use lib.Seq.{getD-at}
 use Rattle.netlist.specs.declared.gate.Gate.{Gate}
-use Rattle.netlist.specs.declared.gate.Gate.the-variants.{Not, Xor, And, Mux}
 use Rattle.netlist.specs.Net.{Alg, at, run, Below}
 use Rattle.netlist.proofs.Sim.{run-append}
 use Rattle.netlist.proofs.Glued.{map-agree}
@@ -361,13 +360,13 @@ module _ {Val : Type 0} (A : Alg Val) where
       TR = trace (down l) (down h) (newRow l h x r) (newSum h (top x r) s) xs
 
   -- where every level keeps its last cell, the last row ends the trace
-  pub trace-row : (xs : List Val) (x l h : ℕ) (r : List Val) (s : Val) (v : Val) → length xs + 2 ≤ h
+  pub trace-row : (xs : List Val) (l h : ℕ) (r : List Val) (s : Val) (v : Val) → length xs + 2 ≤ h
       → (pre : List Val) × (trace l h r s (v ∷ xs) ≡ pre ++ endRow l h r (v ∷ xs))
-  trace-row xs x l zero r s v e = absurd (omega arith)
-  trace-row xs x l (suc zero) r s v e = absurd (omega arith)
-  trace-row [] x l (suc (suc h)) r s v e = (lowNot l v, ap (λ (z : List Val). lowNot l v ++ z) (append-nil _))
-  trace-row (w ∷ xs) x l (suc (suc h)) r s v e =
-      let i = trace-row xs x (down l) (suc h) (newRow l (suc (suc h)) v r) (newSum (suc (suc h)) (top v r) s) w (omega arith) in
+  trace-row xs l zero r s v e = absurd (omega arith)
+  trace-row xs l (suc zero) r s v e = absurd (omega arith)
+  trace-row [] l (suc (suc h)) r s v e = (lowNot l v, ap (λ (z : List Val). lowNot l v ++ z) (append-nil _))
+  trace-row (w ∷ xs) l (suc (suc h)) r s v e =
+      let i = trace-row xs (down l) (suc h) (newRow l (suc (suc h)) v r) (newSum (suc (suc h)) (top v r) s) w (omega arith) in
       ((lowNot l v ++ newRow l (suc (suc h)) v r) ++ i .0, ap (λ (z : List Val). lowNot l v ++ (newRow l (suc (suc h)) v r ++ z)) (i .1) ∙ simp append-assoc)
 
   -- ---- level 1
