@@ -1,1 +1,6 @@
 pub mod Puts
+pub mod KreyviumCases
+pub mod KreyviumPlaces
+pub mod KreyviumPuts
+pub mod KreyviumRounds
+pub mod KreyviumWords

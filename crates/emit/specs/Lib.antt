@@ -1,2 +1,4 @@
 pub mod Put
 pub mod Emit
+pub mod KreyviumPlaces
+pub mod KreyviumRounds
