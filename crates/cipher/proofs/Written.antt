@@ -17,7 +17,7 @@ use Rattle.kreyvium.specs.Kreyvium.{streamOf}
 use Rattle.kreyvium.proofs.Streams.{stream-length}
 use Rattle.cipher.specs.Rows.{streamBit}
 use Rattle.cipher.specs.Cipher.{keystreamOf, encipherOf}
-use Rattle.cipher.proofs.Sums.{added-length}
+use Rattle.answer.proofs.Added.{added-length}
 
 pub keystream-length : (inst m : ℕ) (key idx wh : List ℕ) → length (keystreamOf inst m key idx wh) ≡ m
 unfolding keystreamOf streamOf

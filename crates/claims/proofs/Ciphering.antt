@@ -17,7 +17,7 @@ use Rattle.answer.proofs.Over.{take-over, made}
 use Rattle.instance.specs.Judging.{lengthAnswer, roomAnswer}
 use Rattle.cipher.specs.Judging.{wiringAnswer, encipherAnswer}
 use Rattle.cipher.specs.Cipher.{keystreamOf, encipherOf, Ciphered}
-use Rattle.cipher.proofs.Sums.{added-length, added-twice}
+use Rattle.answer.proofs.Added.{added-length, added-twice, added-bits}
 use Rattle.cipher.proofs.Accepted.{encipher-lent}
 use Rattle.cipher.proofs.Written.{keystream-length}
 
@@ -43,14 +43,6 @@ other-record inst m key rec other idx wh n k e l b h =
     (both (both (first-done _ _ t) (both (done-length 2 _ _ l) (then-done _ _ (then-done _ _ t))))
     (both (both (one-of _ _ _ s) (both (done-bits 2 other b) (three-of _ _ _ s)))
     (both (one-of _ _ _ w) (both (two-of _ _ _ w) (done-room 5 k m h)))))
-
--- sums of bits are bits
-added-bits : (xs ks : List ℕ) (i : ℕ) → getD (added xs ks) i 0 ≤ 1
-unfolding added
-added-bits [] ks i = omega arith
-added-bits (x ∷ xs) [] i = omega arith
-added-bits (x ∷ xs) (k ∷ ks) zero = omega arith
-added-bits (x ∷ xs) (k ∷ ks) (suc i) = added-bits xs ks i
 
 -- A call that was lent the record answers Done and leaves m bits at the front of c. Then a call that is lent these
 -- m bits, and room for m, answers Done and leaves the record.

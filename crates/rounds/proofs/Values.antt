@@ -6,6 +6,7 @@ use native.Mathlib.Omega.{arith}
 use native.Mathlib.Nat.{mod-add-mod, add-mod-mod}
 use lib.ListN.{length, getD}
 use Rattle.answer.specs.Bits.{added}
+use Rattle.answer.proofs.Added.{added-at}
 use Rattle.netlist.specs.Net.{valAlg, eval}
 use Rattle.netlist.proofs.Bits.{Bits}
 use Rattle.kreyvium.specs.Kreyvium.{Registers, sA, sB, sC, k0, t1, t2, t3, roundOf, outOf, loaded, rounds, stream, streamOf}
@@ -129,13 +130,6 @@ pub kreyvium-right : (key iv rec : List ℕ) (m : ℕ) → length key ≡ 128 �
 kreyvium-right key iv rec m hk hv hr bk bv br = rw (sym hr) (right key iv rec hk hv bk bv br)
 
 -- and so bit i
-added-at : (xs ks : List ℕ) (i : ℕ) → i < length xs → i < length ks → getD (added xs ks) i 0 ≡ (getD xs i 0 + getD ks i 0) % 2
-unfolding added
-added-at [] ks i h g = absurd (omega arith)
-added-at (x ∷ xs) [] i h g = absurd (omega arith)
-added-at (x ∷ xs) (k ∷ ks) zero h g = refl
-added-at (x ∷ xs) (k ∷ ks) (suc i) h g = added-at xs ks i (omega arith) (omega arith)
-
 pub kreyvium-bit : (key iv rec : List ℕ) (m : ℕ) → length key ≡ 128 → length iv ≡ 128 → length rec ≡ m → Bits key → Bits iv → Bits rec → (i : ℕ) → i < m
     → getD (eval (kreyviumNet iv m) (key ++ rec)) i 0 ≡ (getD rec i 0 + getD (streamOf key iv m) i 0) % 2
 kreyvium-bit key iv rec m hk hv hr bk bv br i h =
