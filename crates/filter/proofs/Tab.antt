@@ -4,7 +4,10 @@ use mathlib.Core.Path.{_≡_, refl, ap, sym, _∙_}
 use mathlib.Core.List.{List, [], _∷_, _++_, append-nil}
 use native.Mathlib.Omega.{arith}
 use native.Mathlib.Numerals.{add-one}
-use lib.ListN.{length, set, drop, length-append, drop-of-length-le}
+use mathlib.Core.Logic.{⊎-elim}
+use native.Mathlib.Nat.{eq-or-lt-of-le}
+use lib.ListN.{length, getD, set, drop, length-append, drop-of-length-le, List·getD-append}
+use lib.Seq.{getD-at}
 use Rattle.answer.specs.Fronts.{over}
 use Rattle.answer.proofs.Over.{over-next}
 use Rattle.filter.specs.Filter.{tab}
@@ -14,6 +17,15 @@ module _ (f : ℕ → ℕ) where
   unfolding tab
   tab-length zero = refl
   tab-length (suc n) = length-append (tab f n) (f n ∷ []) ∙ omega (arith, tab-length n)
+
+  pub tab-at : (n i : ℕ) → i < n → getD (tab f n) i 0 ≡ f i
+  unfolding tab
+  tab-at zero i h = absurd (omega arith)
+  tab-at (suc n) i h =
+      ⊎-elim
+      (λ (e : i ≡ n). getD-at (tab f n) (f n) [] 0 i (omega (arith, tab-length n)) ∙ ap f (sym e))
+      (λ (l : i < n). List·getD-append (tab f n) (f n ∷ []) 0 i (omega (arith, tab-length n)) ∙ tab-at n i l)
+      (eq-or-lt-of-le {n = i} {m = n} (omega arith))
 
   pub tab-none : (old : List ℕ) → old ≡ over (tab f 0) old
   unfolding tab over

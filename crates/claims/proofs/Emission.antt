@@ -1,0 +1,122 @@
+-- Demand 2 of the emitted netlists, over the definitions that the promises of emit_decipher, evaluate, decipher and the
+-- meter cite: for every instance, every accepted row or IV, every key and every record of bits.
+use Prim.Native.Nat.{ℕ, _+_, _*_, _/_, _%_, _<_, _≤_}
+use mathlib.Core.Bool.{Bool, true, false}
+use mathlib.Core.Path.{_≡_, refl, sym, ap, _∙_}
+use mathlib.Core.List.{List, _++_}
+use native.Mathlib.Omega.{arith}
+use lib.ListN.{length, getD, take, replicate, length-append}
+use lib.Seq.{ext-getD}
+use lib.Dec.{eqb}
+use borrow.Author.Tests.{eqb-true, eqb-false}
+use Rattle.answer.specs.declared.Answer.{Answer}
+use Rattle.answer.specs.declared.Answer.the-variants.{Done}
+use Rattle.answer.specs.Bits.{added}
+use Rattle.answer.specs.Fronts.{over, left}
+use Rattle.answer.proofs.Search.{bits-within}
+use Rattle.answer.proofs.Added.{added-length, added-at}
+use Rattle.answer.proofs.Over.{take-over}
+use Rattle.netlist.specs.Net.{Net, eval, depth, mults, depAlg, outsOf}
+use Rattle.netlist.specs.Words.{inputsOf, gatesOf, outputsOf, words, netOf}
+use Rattle.netlist.specs.Sound.{Sound}
+use Rattle.netlist.proofs.Words.{netOf-words}
+use Rattle.instance.specs.Table.{sizesOf, keyBits}
+use Rattle.filter.specs.Filter.{tab}
+use Rattle.filter.proofs.Tab.{tab-length, tab-at}
+use Rattle.kreyvium.specs.Kreyvium.{streamOf}
+use Rattle.wiring.specs.Costs.{costOf}
+use Rattle.wiring.specs.Decipher.{rowsNet}
+use Rattle.wiring.specs.Rows.{Rows, Inputs, decipherBit}
+use Rattle.wiring.proofs.Claims.{rows-right, rows-mults, rows-depth, rows-outs, rows-sound}
+use Rattle.rounds.specs.Gates.{kreyviumNet}
+use Rattle.rounds.proofs.Sound.{kreyvium-outs, kreyvium-mults, kreyvium-sound}
+use Rattle.rounds.proofs.Values.{kreyvium-right}
+use Rattle.rounds.proofs.Depths.{kreyvium-depths}
+use Rattle.cipher.specs.Rows.{streamBit}
+use Rattle.cipher.specs.Cipher.{keystreamOf, encipherOf, Ciphered}
+use Rattle.cipher.proofs.Accepted.{stream-of, rows-of, encipher-lent}
+use Rattle.cipher.proofs.Written.{keystream-length}
+use Rattle.evaluate.specs.Evaluate.{evaluateAnswer, Evaluated}
+use Rattle.evaluate.specs.Ready.{Ready}
+use Rattle.evaluate.proofs.Accepted.{ready-done}
+use Rattle.emit.specs.Emit.{decipherNet, decipherAnswer, Emitted}
+use Rattle.emit.specs.Lent.{Lent}
+use Rattle.emit.proofs.Accepted.{net-kreyvium, net-rows, iv-lent, rows-lent}
+
+by-six : (inst : ℕ) {P : Type 0} → (inst ≡ 6 → P) → ((inst ≡ 6 → ⊥) → P) → P
+by-six inst {P} f g = go (eqb inst 6) refl
+  where
+    go : (b : Bool) → eqb inst 6 ≡ b → P
+    go true e = f (eqb-true inst 6 e)
+    go false e = g (eqb-false inst 6 e)
+
+-- a table of keystream bits added to a record
+added-tab : (f : ℕ → ℕ) (rec : List ℕ) (m : ℕ) → length rec ≡ m → added rec (tab f m) ≡ tab (λ i. (f i + getD rec i 0) % 2) m
+added-tab f rec m e =
+    let l : length (added rec (tab f m)) ≡ m = added-length rec (tab f m) (omega (arith, tab-length f m)) ∙ e in
+    ext-getD 0 (added rec (tab f m)) (tab (λ i. (f i + getD rec i 0) % 2) m) (l ∙ sym (tab-length (λ i. (f i + getD rec i 0) % 2) m))
+    (λ i h.
+    let q : i < m = omega arith in
+    let u : (getD rec i 0 + f i) % 2 ≡ (f i + getD rec i 0) % 2 = omega arith in
+    added-at rec (tab f m) i (omega arith) (omega (arith, tab-length f m))
+    ∙ ap (λ (k : ℕ). (getD rec i 0 + k) % 2) (tab-at f m i q)
+    ∙ u
+    ∙ sym (tab-at (λ i. (f i + getD rec i 0) % 2) m i q))
+
+module _ (inst m : ℕ) (idx wh : List ℕ) (l : Lent inst m idx wh) where
+  rows : (inst ≡ 6 → ⊥) → Rows inst m idx wh
+  rows n = record { indices = l .indices; whitening = rows-lent inst m idx wh l n; below = l .below; whiteBit = l .bits }
+
+  five : (inst ≡ 6 → ⊥) → inst ≤ 5
+  five n = omega (arith, l .most)
+
+  -- The emitted words are accepted by every netlist call.
+  pub emitted-sound : Sound (words (decipherNet inst m idx wh))
+  emitted-sound =
+      by-six inst
+      (λ e. rw (net-kreyvium inst m idx wh e) (kreyvium-sound wh m (l .few)))
+      (λ n. rw (net-rows inst m idx wh n) (rows-sound inst m idx wh (l .least) (five n) (rows n) (l .few)))
+
+  -- Inputs: N key bits, then m record bits; outputs m.
+  pub emitted-inputs : inputsOf (words (decipherNet inst m idx wh)) ≡ keyBits inst + m
+  unfolding kreyviumNet rowsNet sizesOf
+  emitted-inputs =
+      by-six inst
+      (λ e. ap (λ (n : Net). n .inputs) (net-kreyvium inst m idx wh e) ∙ ap (λ (i : ℕ). keyBits i + m) (sym e))
+      (λ n. ap (λ (n : Net). n .inputs) (net-rows inst m idx wh n))
+
+  pub emitted-outputs : outputsOf (words (decipherNet inst m idx wh)) ≡ m
+  emitted-outputs =
+      by-six inst
+      (λ e. ap (λ (n : Net). length (n .outs)) (net-kreyvium inst m idx wh e) ∙ kreyvium-outs wh m)
+      (λ n. ap (λ (n : Net). length (n .outs)) (net-rows inst m idx wh n) ∙ rows-outs inst m idx wh (l .least) (five n) (rows n))
+
+  -- Multiplications and depth: document 01's table for instances 1 to 5; Kreyvium's, and its bound for output bit t.
+  pub emitted-mults : (inst ≡ 6 → ⊥) → mults (decipherNet inst m idx wh) ≡ m * costOf inst .mults
+  emitted-mults n = ap mults (net-rows inst m idx wh n) ∙ rows-mults inst m idx wh (l .least) (five n) (rows n)
+
+  pub emitted-depth : (inst ≡ 6 → ⊥) → depth (decipherNet inst m idx wh) ≡ costOf inst .depth
+  emitted-depth n = ap depth (net-rows inst m idx wh n) ∙ rows-depth inst m idx wh (l .least) (five n) (rows n) (l .some)
+
+  pub kreyvium-emitted-mults : inst ≡ 6 → mults (decipherNet inst m idx wh) ≡ 3 * (1152 + m)
+  kreyvium-emitted-mults e = ap mults (net-kreyvium inst m idx wh e) ∙ kreyvium-mults wh m
+
+  pub kreyvium-emitted-depths : inst ≡ 6 → (t : ℕ) → t < m
+      → getD (outsOf depAlg (decipherNet inst m idx wh) (replicate (decipherNet inst m idx wh .inputs) 0)) t 0 ≤ (1087 + t + 81) / 82
+  kreyvium-emitted-depths e t h =
+      rw (net-kreyvium inst m idx wh e) (kreyvium-depths wh m (iv-lent inst m idx wh l e) t h)
+
+  -- Evaluated on a key and a record, the netlist gives what deciphering gives.
+  pub emitted-evaluates : (key rec : List ℕ) → Inputs inst m key rec → eval (decipherNet inst m idx wh) (key ++ rec) ≡ encipherOf inst m key rec idx wh
+  unfolding encipherOf decipherBit streamBit sizesOf
+  emitted-evaluates key rec g =
+      by-six inst
+      (λ e.
+      ap (λ (n : Net). eval n (key ++ rec)) (net-kreyvium inst m idx wh e)
+      ∙ kreyvium-right key wh rec m (g .keyLength ∙ ap keyBits e) (iv-lent inst m idx wh l e) (g .recLength) (bits-within key (g .keyBit)) (bits-within wh (l .bits)) (bits-within rec (g .recBit))
+      ∙ ap (added rec) (stream-of inst m key idx wh e))
+      (λ n.
+      ap (λ (n : Net). eval n (key ++ rec)) (net-rows inst m idx wh n)
+      ∙ rows-right inst m idx wh (l .least) (five n) (rows n) key rec g
+      ∙ sym (added-tab (streamBit inst key idx wh) rec m (g .recLength))
+      ∙ ap (added rec) (rows-of inst m key idx wh n))
