@@ -2,9 +2,10 @@
 use Prim.Native.Nat.{ℕ}
 use mathlib.Core.Path.{_≡_, sym, ap, _∙_}
 use mathlib.Core.List.{List}
+use lib.ListN.{length}
 use Rattle.answer.specs.declared.Answer.{Answer}
 use Rattle.answer.specs.Fronts.{left}
-use Rattle.netlist.specs.Net.{depth, mults}
+use Rattle.netlist.specs.Net.{Net, depth, mults}
 use Rattle.netlist.specs.Words.{netOf}
 use Rattle.netlist.specs.Check.{netAnswer}
 use Rattle.evaluate.specs.Evaluate.{Evaluated}
@@ -13,6 +14,8 @@ use Rattle.meter.specs.Meter.{ifDone, MeteredAs}
 use Rattle.glue.specs.Glue.{GluedAs}
 use Rattle.choice.specs.Choice.{Chosen}
 use Rattle.cipher.specs.Cipher.{Streamed, Ciphered}
+use Rattle.cells.specs.Cells.{oneHotNet, thresholdNet}
+use Rattle.emit.specs.Emit.{oneHotAnswer, thresholdAnswer, decipherAnswer, decipherNet, Emitted}
 
 -- two lists that were left by equal answers
 same-left : {r s : Answer} (front old : List ℕ) {x y : List ℕ} → r ≡ s → x ≡ left r front old → y ≡ left s front old → x ≡ y
@@ -64,3 +67,23 @@ pub cipher-decides : (inst m : ℕ) (key rec idx wh out : List ℕ) {r s : Answe
 cipher-decides inst m key rec idx wh out x y =
     let e = x .answered ∙ sym (y .answered) in
     (e, same-left _ _ e (x .written) (y .written))
+
+-- the three calls of emission
+emitted-decides : {due : Answer} {net : Net} (out : List ℕ) {r s : Answer} {v w : List ℕ} → Emitted due net out r v → Emitted due net out s w → (r ≡ s) × (v ≡ w)
+emitted-decides out x y =
+    let e = x .answered ∙ sym (y .answered) in
+    (e, same-left _ _ e (x .written) (y .written))
+
+pub one-hot-decides : (n : ℕ) (out : List ℕ) {r s : Answer} {v w : List ℕ}
+    → Emitted (oneHotAnswer n (length out)) (oneHotNet n) out r v → Emitted (oneHotAnswer n (length out)) (oneHotNet n) out s w → (r ≡ s) × (v ≡ w)
+one-hot-decides n out x y = emitted-decides out x y
+
+pub threshold-decides : (d n : ℕ) (out : List ℕ) {r s : Answer} {v w : List ℕ}
+    → Emitted (thresholdAnswer d n (length out)) (thresholdNet d n) out r v → Emitted (thresholdAnswer d n (length out)) (thresholdNet d n) out s w
+    → (r ≡ s) × (v ≡ w)
+threshold-decides d n out x y = emitted-decides out x y
+
+pub emit-decipher-decides : (inst m : ℕ) (idx wh out : List ℕ) {r s : Answer} {v w : List ℕ}
+    → Emitted (decipherAnswer inst m idx wh (length out)) (decipherNet inst m idx wh) out r v
+    → Emitted (decipherAnswer inst m idx wh (length out)) (decipherNet inst m idx wh) out s w → (r ≡ s) × (v ≡ w)
+emit-decipher-decides inst m idx wh out x y = emitted-decides out x y

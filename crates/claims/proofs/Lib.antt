@@ -3,3 +3,4 @@ pub mod Gluing
 pub mod Metering
 pub mod Ciphering
 pub mod Emission
+pub mod Scoring
