@@ -8,7 +8,6 @@
 use crate::cipher::{self, by_marks, Cipher, Lists, Search, MAX_BITS, MAX_ROW};
 use crate::kreyvium::{self, SILENT};
 use crate::netlist::{Answer, AND, HEADER, MUX, NOT, ONE, XOR, ZERO};
-use std::slice;
 
 /// The most inputs of a one-hot and of a threshold netlist.
 pub const MAX_COUNTED: usize = 64;
@@ -20,23 +19,33 @@ impl Answer {
 
 /// The gates of a netlist, as they are written one after another.
 struct Gates<'a> {
-    places: slice::IterMut<'a, [u32; 4]>,
-    /// The wire of the next gate.
-    wire: u32,
+    places: &'a mut [[u32; 4]],
+    written: usize,
+    inputs: usize,
 }
 
 impl Gates<'_> {
     #[inline]
     fn put(&mut self, gate: [u32; 4]) -> u32 {
-        *self.places.next().expect("the gates are counted") = gate;
-        let wire = self.wire;
-        self.wire += 1;
-        wire
+        self.places[self.written] = gate;
+        let wire = self.inputs + self.written;
+        self.written += 1;
+        wire as u32
     }
 
     #[inline]
     fn not(&mut self, a: u32) -> u32 {
         self.put([NOT, a, 0, 0])
+    }
+
+    /// A NOT if the bit is 1, and the wire itself if it is 0. Without a branch:
+    /// the gate is written in any case, and another one over it if it does not
+    /// count. So it must not be the last.
+    #[inline]
+    fn not_if(&mut self, bit: u8, a: u32) -> u32 {
+        let not = self.not(a);
+        self.written -= usize::from(1 - bit);
+        [a, not][usize::from(bit)]
     }
 
     #[inline]
@@ -53,6 +62,16 @@ impl Gates<'_> {
     #[inline]
     fn mux(&mut self, a: u32, b: u32, c: u32) -> u32 {
         self.put([MUX, a, b, c])
+    }
+
+    /// The places of the next gates, all of which have to be filled in, and the
+    /// wire of the first.
+    #[inline]
+    fn next<const COUNT: usize>(&mut self) -> (&mut [[u32; 4]; COUNT], u32) {
+        let places = self.places[self.written..].first_chunk_mut();
+        let wire = self.inputs + self.written;
+        self.written += COUNT;
+        (places.expect("the gates are counted"), wire as u32)
     }
 }
 
@@ -83,11 +102,12 @@ impl Counts {
         counts[1] = self.gates as u32;
         counts[2] = self.outputs as u32;
         let mut gates = Gates {
-            places: places.iter_mut(),
-            wire: self.inputs as u32,
+            places,
+            written: 0,
+            inputs: self.inputs,
         };
         write(&mut gates, outputs);
-        assert_eq!(gates.places.len(), 0, "the gates are counted");
+        assert_eq!(gates.written, self.gates, "the gates are counted");
         Ok(())
     }
 }
@@ -215,38 +235,70 @@ fn put_threshold(gates: &mut Gates, d: usize, x: &[u32]) -> u32 {
 
 // ---- filters ----
 
-/// A sum of monomials, which use up the wires of a row in order.
+/// A sum of monomials, which use up the wires of a row in order. The first has
+/// degree 1, as in all filters here, and needs no gate.
 struct Sum<'a> {
+    wire: u32,
     rest: &'a [u32],
-    sum: Option<u32>,
 }
 
 impl<'a> Sum<'a> {
     fn of(row: &'a [u32]) -> Self {
-        Sum {
-            rest: row,
-            sum: None,
-        }
+        let (&wire, rest) = row.split_first().expect("a filter has variables");
+        Sum { wire, rest }
     }
 
-    /// Adds that many monomials of that degree.
+    /// Adds the next monomial, of that degree: as many gates as variables.
     #[inline]
-    fn add(&mut self, gates: &mut Gates, count: usize, degree: usize) {
-        let (used, rest) = self.rest.split_at(count * degree);
+    fn add<const DEGREE: usize>(&mut self, gates: &mut Gates) {
+        let (x, rest) = self
+            .rest
+            .split_first_chunk::<DEGREE>()
+            .expect("variables enough");
         self.rest = rest;
-        for monomial in used.chunks_exact(degree) {
-            let product = monomial[1..]
-                .iter()
-                .fold(monomial[0], |product, &x| gates.and(product, x));
-            self.sum = Some(match self.sum {
-                None => product,
-                Some(sum) => gates.xor(sum, product),
-            });
+        let (places, first) = gates.next::<DEGREE>();
+        let mut product = x[0];
+        for (i, &x) in x[1..].iter().enumerate() {
+            places[i] = [AND, product, x, 0];
+            product = first + i as u32;
+        }
+        places[DEGREE - 1] = [XOR, self.wire, product, 0];
+        self.wire = first + DEGREE as u32 - 1;
+    }
+
+    /// Adds that many.
+    #[inline]
+    fn add_all<const DEGREE: usize>(&mut self, gates: &mut Gates, count: usize) {
+        for _ in 0..count {
+            self.add::<DEGREE>(gates);
         }
     }
 
-    fn wire(self) -> u32 {
-        self.sum.expect("a filter has monomials")
+    /// Adds a triangle of degree 9.
+    #[inline]
+    fn add_triangle_9(&mut self, gates: &mut Gates) {
+        self.add::<1>(gates);
+        self.add::<2>(gates);
+        self.add::<3>(gates);
+        self.add::<4>(gates);
+        self.add::<5>(gates);
+        self.add::<6>(gates);
+        self.add::<7>(gates);
+        self.add::<8>(gates);
+        self.add::<9>(gates);
+    }
+
+    /// The same for degree 16.
+    #[inline]
+    fn add_triangle_16(&mut self, gates: &mut Gates) {
+        self.add_triangle_9(gates);
+        self.add::<10>(gates);
+        self.add::<11>(gates);
+        self.add::<12>(gates);
+        self.add::<13>(gates);
+        self.add::<14>(gates);
+        self.add::<15>(gates);
+        self.add::<16>(gates);
     }
 }
 
@@ -256,49 +308,49 @@ type Filter = fn(&mut Gates, &[u32]) -> u32;
 /// The filters of instances 1 to 5.
 const FILTERS: [Filter; 5] = [flip_530, flip_1394, filip_1216, filip_1280, filip_144];
 
-fn flip(gates: &mut Gates, x: &[u32], linear: usize, pairs: usize, degree: usize) -> u32 {
-    let mut sum = Sum::of(x);
-    sum.add(gates, linear, 1);
-    sum.add(gates, pairs, 2);
-    for _ in 0..8 {
-        for degree in 1..=degree {
-            sum.add(gates, 1, degree);
-        }
-    }
-    sum.wire()
-}
-
 fn flip_530(gates: &mut Gates, x: &[u32]) -> u32 {
-    flip(gates, x, 42, 64, 9)
+    let mut sum = Sum::of(x);
+    sum.add_all::<1>(gates, 41);
+    sum.add_all::<2>(gates, 64);
+    for _ in 0..8 {
+        sum.add_triangle_9(gates);
+    }
+    sum.wire
 }
 
 fn flip_1394(gates: &mut Gates, x: &[u32]) -> u32 {
-    flip(gates, x, 82, 112, 16)
+    let mut sum = Sum::of(x);
+    sum.add_all::<1>(gates, 81);
+    sum.add_all::<2>(gates, 112);
+    for _ in 0..8 {
+        sum.add_triangle_16(gates);
+    }
+    sum.wire
 }
 
 fn filip_1216(gates: &mut Gates, x: &[u32]) -> u32 {
     let mut sum = Sum::of(x);
-    sum.add(gates, 128, 1);
-    sum.add(gates, 64, 2);
-    sum.add(gates, 80, 4);
-    sum.add(gates, 80, 8);
-    sum.wire()
+    sum.add_all::<1>(gates, 127);
+    sum.add_all::<2>(gates, 64);
+    sum.add_all::<4>(gates, 80);
+    sum.add_all::<8>(gates, 80);
+    sum.wire
 }
 
 fn filip_1280(gates: &mut Gates, x: &[u32]) -> u32 {
     let mut sum = Sum::of(x);
-    sum.add(gates, 128, 1);
-    sum.add(gates, 64, 2);
-    sum.add(gates, 64, 16);
-    sum.wire()
+    sum.add_all::<1>(gates, 127);
+    sum.add_all::<2>(gates, 64);
+    sum.add_all::<16>(gates, 64);
+    sum.wire
 }
 
 fn filip_144(gates: &mut Gates, x: &[u32]) -> u32 {
     let (summed, counted) = x.split_at(81);
     let mut sum = Sum::of(summed);
-    sum.add(gates, 81, 1);
+    sum.add_all::<1>(gates, 80);
     let reached = put_threshold(gates, 32, counted);
-    gates.xor(sum.wire(), reached)
+    gates.xor(sum.wire, reached)
 }
 
 /// The gates of the filter of that instance. A sum of monomials has one less
@@ -362,27 +414,26 @@ fn try_decipher(
         gates,
         outputs: m,
     };
-    counts.emit(
-        lists.result_list(),
-        result,
-        |gates, outputs| match instance.cipher {
-            Cipher::Kreyvium => put_kreyvium(gates, whitening, outputs),
-            _ => {
-                let filter = FILTERS[number as usize - 1];
-                let mut row = [0; MAX_ROW];
-                let row = &mut row[..instance.row];
-                let records = instance.key as u32..;
-                let indices = indices.chunks_exact(instance.row);
-                let whitening = whitening.chunks_exact(instance.row);
-                let bits = outputs.iter_mut().zip(records);
-                for (((output, record), indices), whitening) in bits.zip(indices).zip(whitening) {
-                    put_variables(gates, indices, whitening, row);
-                    let filtered = filter(gates, row);
-                    *output = gates.xor(filtered, record);
-                }
-            }
-        },
-    )
+    counts.emit(lists.result_list(), result, |gates, outputs| {
+        if let Cipher::Kreyvium = instance.cipher {
+            return put_kreyvium(gates, whitening, outputs);
+        }
+        let filter = FILTERS[number as usize - 1];
+        let mut buffer = [0; MAX_ROW];
+        let buffer = &mut buffer[..instance.row];
+        let bits = outputs.iter_mut().zip(instance.key as u32..);
+        let indices = indices.chunks_exact(instance.row);
+        let whitening = whitening.chunks_exact(instance.row);
+        for (((output, record), indices), whitening) in bits.zip(indices).zip(whitening) {
+            let row = match instance.cipher {
+                // Nothing is whitened.
+                Cipher::Flip(_) => indices,
+                _ => variables(gates, indices, whitening, buffer),
+            };
+            let filtered = filter(gates, row);
+            *output = gates.xor(filtered, record);
+        }
+    })
 }
 
 /// How many of these bits are 1.
@@ -390,12 +441,18 @@ fn ones(bits: &[u8]) -> usize {
     bits.iter().map(|&bit| usize::from(bit)).sum()
 }
 
-/// Fills in the wires of a row's variables: those of the key, or of a NOT
+/// The wires of a row's variables, in the buffer: those of the key, or of a NOT
 /// where the whitening bit is 1.
-fn put_variables(gates: &mut Gates, indices: &[u32], whitening: &[u8], row: &mut [u32]) {
-    for ((x, &index), &white) in row.iter_mut().zip(indices).zip(whitening) {
-        *x = if white == 0 { index } else { gates.not(index) };
+fn variables<'a>(
+    gates: &mut Gates,
+    indices: &[u32],
+    whitening: &[u8],
+    buffer: &'a mut [u32],
+) -> &'a [u32] {
+    for ((x, &index), &white) in buffer.iter_mut().zip(indices).zip(whitening) {
+        *x = gates.not_if(white, index);
     }
+    buffer
 }
 
 /// All rounds of Kreyvium. The wires that enter at s1, s94 and s178 in a round
