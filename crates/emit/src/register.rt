@@ -1,18 +1,19 @@
 // Kreyvium's deciphering netlist: document 01, "What is emitted". Rounds count from 0, and those from 1,152 on have an output.
 //
-// What a round reads is computed from its number. Every tap stands at the 66th place of its register or above, so all that
-// the rounds with an output read entered before them, in rounds of 14 gates.
+// What a round reads is computed from its number. Of each register it reads what entered 66 to 111 rounds ago, or, in the
+// first 111 rounds, what was loaded. So no round reads what entered in a round with an output, and all that is read entered
+// in rounds of 14 gates.
 use crate::put::put_gate;
 use crate::put::put_header;
 ghost use mathlib.Core.Path.{_≡_};
-ghost use Prim.Native.Nat.{_+_, _*_, _≤_, _<_};
+ghost use Prim.Native.Nat.{_+_, _-_, _*_, _%_, _≤_, _<_};
 ghost use lib.ListN.{length};
 ghost use lib.Seq.{sets};
 ghost use Rattle.answer.specs.Fronts.{over};
 ghost use Rattle.netlist.specs.Words.{words};
 ghost use Rattle.rounds.specs.Gates.{outsFrom, outGates, kreyviumGates, kreyviumNet};
 ghost use Rattle.emit.specs.Put.{putGates};
-ghost use Rattle.emit.specs.KreyviumPlaces.{tailAt, registersAt, constWire, wireA, wireB, startC, wireC, tapsOf, placesA, placesB, placesC, headOf, gainOf, tailOf, Small};
+ghost use Rattle.emit.specs.KreyviumPlaces.{tailAt, registersAt, constWire, wireA, wireB, startC, wireC, tapsOf, placesA, placesB, placesC, placesOf, agoOf, lateOf, headOf, gainOf, tailOf, Small};
 ghost use Rattle.emit.specs.KreyviumRounds.{plainAt, plainGates, plainRest, outputAt, outputGates, outputRest};
 
 // The wires of the five places that a round reads of a register, in the order of their numbers.
@@ -53,7 +54,7 @@ fn const_wire(iv: &[u8], m: u32, i: u32) -> u32
 
 // The wire at place j of a register before round n: what entered j + 1 rounds ago, or what was loaded.
 fn wire_a(m: u32, n: u32, j: u32) -> u32
-    requires { ⌜ (m ≤ 64) × (n ≤ 1216) × (65 ≤ j) ⌝ }
+    requires { ⌜ (m ≤ 64) × (n < 111) ⌝ }
     ensures { λ r. ⌜ r ≡ wireA m n j ⌝ }
 {
     if j < n {
@@ -64,7 +65,7 @@ fn wire_a(m: u32, n: u32, j: u32) -> u32
 }
 
 fn wire_b(iv: &[u8], m: u32, n: u32, j: u32) -> u32
-    requires { ⌜ Small (now iv) m n × (65 ≤ j) × (j < 84) ⌝ }
+    requires { ⌜ Small (now iv) m n 111 × (j < 84) ⌝ }
     ensures { λ r. ⌜ r ≡ wireB (now (iv .entry)) m n j ⌝ }
 {
     if j < n {
@@ -86,7 +87,7 @@ fn start_c(iv: &[u8], m: u32, i: u32) -> u32
 }
 
 fn wire_c(iv: &[u8], m: u32, n: u32, j: u32) -> u32
-    requires { ⌜ Small (now iv) m n × (65 ≤ j) ⌝ }
+    requires { ⌜ Small (now iv) m n 111 ⌝ }
     ensures { λ r. ⌜ r ≡ wireC (now (iv .entry)) m n j ⌝ }
 {
     if j < n {
@@ -98,7 +99,7 @@ fn wire_c(iv: &[u8], m: u32, n: u32, j: u32) -> u32
 
 // s66, s69, s91, s92, s93
 fn five_a(m: u32, n: u32) -> Five
-    requires { ⌜ (m ≤ 64) × (n ≤ 1216) ⌝ }
+    requires { ⌜ (m ≤ 64) × (n < 111) ⌝ }
     ensures { λ r. ⌜ r ≡ placesA m n ⌝ }
 {
     Five {
@@ -112,7 +113,7 @@ fn five_a(m: u32, n: u32) -> Five
 
 // s162, s171, s175, s176, s177
 fn five_b(iv: &[u8], m: u32, n: u32) -> Five
-    requires { ⌜ Small (now iv) m n ⌝ }
+    requires { ⌜ Small (now iv) m n 111 ⌝ }
     ensures { λ r. ⌜ r ≡ placesB (now (iv .entry)) m n ⌝ }
 {
     Five {
@@ -126,7 +127,7 @@ fn five_b(iv: &[u8], m: u32, n: u32) -> Five
 
 // s243, s264, s286, s287, s288
 fn five_c(iv: &[u8], m: u32, n: u32) -> Five
-    requires { ⌜ Small (now iv) m n ⌝ }
+    requires { ⌜ Small (now iv) m n 111 ⌝ }
     ensures { λ r. ⌜ r ≡ placesC (now (iv .entry)) m n ⌝ }
 {
     Five {
@@ -138,17 +139,59 @@ fn five_c(iv: &[u8], m: u32, n: u32) -> Five
     }
 }
 
-// K*0 and IV*0 of round n are the bits at 127 - n, and again from 127 down.
-fn taps_at(iv: &[u8], m: u32, n: u32) -> Taps
-    requires { ⌜ Small (now iv) m n ⌝ }
-    ensures { λ r. ⌜ r ≡ tapsOf (registersAt (now (iv .entry)) m n) ⌝ }
+fn early_taps(iv: &[u8], m: u32, n: u32, k: u32, v: u32) -> Taps
+    requires { ⌜ Small (now iv) m n 111 ⌝ }
+    ensures { λ r. ⌜ r ≡ placesOf (now (iv .entry)) m n k v ⌝ }
 {
     let a = five_a(m, n);
     let b = five_b(iv, m, n);
     let c = five_c(iv, m, n);
-    let k = 127 - n % 128;
-    let v = const_wire(iv, m, k);
     Taps { a, b, c, k, v }
+}
+
+// What entered p, q, r, s and t rounds ago, where x enters now.
+fn ago(x: u32, p: u32, q: u32, r: u32, s: u32, t: u32) -> Five
+    requires { ⌜ (p ≤ 111) × (q ≤ 111) × (r ≤ 111) × (s ≤ 111) × (t ≤ 111) × (14 * 111 ≤ x) ⌝ }
+    ensures { λ five. ⌜ five ≡ agoOf x p q r s t ⌝ }
+{
+    Five {
+        p: x - 14 * p,
+        q: x - 14 * q,
+        r: x - 14 * r,
+        s: x - 14 * s,
+        t: x - 14 * t,
+    }
+}
+
+fn late_taps(m: u32, n: u32, k: u32, v: u32) -> Taps
+    requires { ⌜ (m ≤ 64) × (111 ≤ n) × (n < 1216) ⌝ }
+    ensures { λ r. ⌜ r ≡ lateOf m n k v ⌝ }
+{
+    let u = 134 + m + 14 * n;
+    let a = ago(u + 9, 66, 69, 91, 92, 93);
+    let b = ago(u + 3, 69, 78, 82, 83, 84);
+    let c = ago(u + 6, 66, 87, 109, 110, 111);
+    Taps { a, b, c, k, v }
+}
+
+// The bit of K and of IV that leaves K* and IV* in round n: 127, then 126, down to 0, and from 127 again.
+fn leaving(n: u32) -> u32
+    ensures { λ r. ⌜ r ≡ 127 - n % 128 ⌝ }
+{
+    127 - n % 128
+}
+
+fn taps_at(iv: &[u8], m: u32, n: u32) -> Taps
+    requires { ⌜ Small (now iv) m n 1216 ⌝ }
+    ensures { λ r. ⌜ r ≡ tapsOf (registersAt (now (iv .entry)) m n) ⌝ }
+{
+    let k = leaving(n);
+    let v = const_wire(iv, m, k);
+    if n < 111 {
+        early_taps(iv, m, n, k, v)
+    } else {
+        late_taps(m, n, k, v)
+    }
 }
 
 // t1, t2, s243 + s288, t3
@@ -201,7 +244,7 @@ fn put_tail(out: &mut [u32], at: usize, w: u32, u: u32, t: Taps)
 
 // Round n, without output: 14 gates.
 fn plain_round(out: &mut [u32], iv: &[u8], m: u32, n: u32)
-    requires { ⌜ Small (now iv) m n × (n < 1152) × (64523 ≤ length (now out)) ⌝ }
+    requires { ⌜ Small (now iv) m n 1152 × (64523 ≤ length (now out)) ⌝ }
     ensures { λ _. ⌜ now (out .exit) ≡ putGates (now (out .entry)) (plainAt n) (plainGates (now (iv .entry)) m n) ⌝ }
 {
     let t = taps_at(iv, m, n);
@@ -213,7 +256,7 @@ fn plain_round(out: &mut [u32], iv: &[u8], m: u32, n: u32)
 
 // Round 1,152 + k, with output bit k: 17 gates.
 fn output_round(out: &mut [u32], iv: &[u8], m: u32, k: u32)
-    requires { ⌜ Small (now iv) m (1152 + k) × (k < 64) × (64591 + 68 * k ≤ length (now out)) ⌝ }
+    requires { ⌜ Small (now iv) m k 64 × (64591 + 68 * k ≤ length (now out)) ⌝ }
     ensures { λ _. ⌜ now (out .exit) ≡ putGates (now (out .entry)) (outputAt k) (outputGates (now (iv .entry)) m k) ⌝ }
 {
     let t = taps_at(iv, m, 1152 + k);
@@ -225,7 +268,7 @@ fn output_round(out: &mut [u32], iv: &[u8], m: u32, k: u32)
 }
 
 fn plain_rounds(out: &mut [u32], iv: &[u8], m: u32)
-    requires { ⌜ Small (now iv) m 1152 × (64523 ≤ length (now out)) ⌝ }
+    requires { ⌜ (m ≤ 64) × (length (now iv) ≡ 128) × (64523 ≤ length (now out)) ⌝ }
     ensures { λ _. ⌜ putGates (now (out .exit)) 64523 (outputRest (now (iv .entry)) m 0 m) ≡ putGates (now (out .entry)) 11 (plainRest (now (iv .entry)) m 0 1152) ⌝ }
 {
     let mut n: u32 = 0;
@@ -236,7 +279,7 @@ fn plain_rounds(out: &mut [u32], iv: &[u8], m: u32)
 }
 
 fn output_rounds(out: &mut [u32], iv: &[u8], m: u32)
-    requires { ⌜ Small (now iv) m 1152 × (64523 + 68 * m ≤ length (now out)) ⌝ }
+    requires { ⌜ (m ≤ 64) × (length (now iv) ≡ 128) × (64523 + 68 * m ≤ length (now out)) ⌝ }
     ensures { λ _. ⌜ now (out .exit) ≡ putGates (now (out .entry)) 64523 (outputRest (now (iv .entry)) m 0 m) ⌝ }
 {
     let mut k: u32 = 0;
@@ -248,7 +291,7 @@ fn output_rounds(out: &mut [u32], iv: &[u8], m: u32)
 
 // ZERO, ONE and every round's gates, from word 3 on.
 fn put_rounds(out: &mut [u32], iv: &[u8], m: u32)
-    requires { ⌜ Small (now iv) m 1152 × (64523 + 68 * m ≤ length (now out)) ⌝ }
+    requires { ⌜ (m ≤ 64) × (length (now iv) ≡ 128) × (64523 + 68 * m ≤ length (now out)) ⌝ }
     ensures { λ _. ⌜ now (out .exit) ≡ putGates (now (out .entry)) 3 (kreyviumGates (now (iv .entry)) m) ⌝ }
 {
     put_gate(out, 3, crate::put::ZERO, 0, 0, 0);

@@ -20,7 +20,9 @@ loop-holds : tie.Need-loop-holds Inv-loop μ-loop
 loop-holds c = (output-start _ _ _, omega arith, refl)
 
 output-round-requires : tie.Need-output-round-requires Inv-loop μ-loop
-output-round-requires c κs = (record { iv = c .before .before .before .before .before .pre .0 .iv; m = c .before .before .before .before .before .pre .0 .m; n = omega (arith, c .before .before .before .before .before .pre .0 .m) }, omega (arith, c .before .before .before .before .before .pre .0 .m), omega arith)
+output-round-requires c κs =
+    let p = c .before .before .before .before .before .pre in
+    (record { iv = p .1; m = p .0; n = omega (arith, p .0) }, omega arith)
 
 add-k : tie.Need-add-k Inv-loop μ-loop
 add-k c = omega arith

@@ -19,7 +19,9 @@ loop-holds : tie.Need-loop-holds Inv-loop μ-loop
 loop-holds c = (refl, omega arith, refl)
 
 plain-round-requires : tie.Need-plain-round-requires Inv-loop μ-loop
-plain-round-requires c κs = (record { iv = c .before .before .before .before .before .pre .0 .iv; m = c .before .before .before .before .before .pre .0 .m; n = omega arith }, c .before .loop-test .taken, omega arith)
+plain-round-requires c κs =
+    let p = c .before .before .before .before .before .pre in
+    (record { iv = p .1; m = p .0; n = c .before .loop-test .taken }, omega arith)
 
 add-n : tie.Need-add-n Inv-loop μ-loop
 add-n c = omega arith
