@@ -61,22 +61,9 @@ placesB iv m n = record { p = wireB iv m n 68; q = wireB iv m n 77; r = wireB iv
 abbrev pub placesC : List ℕ → ℕ → ℕ → Five
 placesC iv m n = record { p = wireC iv m n 65; q = wireC iv m n 86; r = wireC iv m n 108; s = wireC iv m n 109; t = wireC iv m n 110 }
 
-abbrev pub placesOf : List ℕ → ℕ → ℕ → ℕ → ℕ → Taps
-placesOf iv m n k v = record { a = placesA m n; b = placesB iv m n; c = placesC iv m n; k = k; v = v }
-
 -- what entered p, q, r, s and t rounds of 14 gates ago, where x enters now
 abbrev pub agoOf : ℕ → ℕ → ℕ → ℕ → ℕ → ℕ → Five
 agoOf x p q r s t = record { p = x - 14 * p; q = x - 14 * q; r = x - 14 * r; s = x - 14 * s; t = x - 14 * t }
-
--- what round n reads, if all of it entered
-unfoldable pub lateOf : ℕ → ℕ → ℕ → ℕ → Taps
-lateOf m n k v = record {
-  a = agoOf (134 + m + 14 * n + 9) 66 69 91 92 93;
-  b = agoOf (134 + m + 14 * n + 3) 69 78 82 83 84;
-  c = agoOf (134 + m + 14 * n + 6) 66 87 109 110 111;
-  k = k;
-  v = v;
-}
 
 -- the gates of a round over what it reads: headOf w (tapsOf s) is headGates w s, and tailOf alike
 abbrev pub headOf : ℕ → Taps → List Gate

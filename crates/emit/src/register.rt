@@ -13,8 +13,8 @@ ghost use Rattle.answer.specs.Fronts.{over};
 ghost use Rattle.netlist.specs.Words.{words};
 ghost use Rattle.rounds.specs.Gates.{outsFrom, outGates, kreyviumGates, kreyviumNet};
 ghost use Rattle.emit.specs.Put.{putGates};
-ghost use Rattle.emit.specs.KreyviumPlaces.{tailAt, registersAt, constWire, wireA, wireB, startC, wireC, tapsOf, placesA, placesB, placesC, placesOf, agoOf, lateOf, headOf, gainOf, tailOf, Small};
-ghost use Rattle.emit.specs.KreyviumRounds.{plainAt, plainGates, plainRest, outputAt, outputGates, outputRest};
+ghost use Rattle.emit.specs.KreyviumPlaces.{tailAt, registersAt, constWire, wireA, wireB, startC, wireC, tapsOf, placesA, placesB, placesC, agoOf, headOf, gainOf, tailOf, Small};
+ghost use Rattle.emit.specs.KreyviumRounds.{plainAt, plainOf, plainRest, outputAt, outputOf, outputRest};
 
 // The wires of the five places that a round reads of a register, in the order of their numbers.
 pub(crate) struct Five {
@@ -139,13 +139,23 @@ fn five_c(iv: &[u8], m: u32, n: u32) -> Five
     }
 }
 
-fn early_taps(iv: &[u8], m: u32, n: u32, k: u32, v: u32) -> Taps
+// The bit of K and of IV that leaves K* and IV* in round n: 127, then 126, down to 0, and from 127 again.
+fn leaving(n: u32) -> u32
+    ensures { λ r. ⌜ r ≡ 127 - n % 128 ⌝ }
+{
+    127 - n % 128
+}
+
+// What one of the first 111 rounds reads.
+fn early_taps(iv: &[u8], m: u32, n: u32) -> Taps
     requires { ⌜ Small (now iv) m n 111 ⌝ }
-    ensures { λ r. ⌜ r ≡ placesOf (now (iv .entry)) m n k v ⌝ }
+    ensures { λ r. ⌜ r ≡ tapsOf (registersAt (now (iv .entry)) m n) ⌝ }
 {
     let a = five_a(m, n);
     let b = five_b(iv, m, n);
     let c = five_c(iv, m, n);
+    let k = leaving(n);
+    let v = const_wire(iv, m, k);
     Taps { a, b, c, k, v }
 }
 
@@ -163,35 +173,18 @@ fn ago(x: u32, p: u32, q: u32, r: u32, s: u32, t: u32) -> Five
     }
 }
 
-fn late_taps(m: u32, n: u32, k: u32, v: u32) -> Taps
-    requires { ⌜ (m ≤ 64) × (111 ≤ n) × (n < 1216) ⌝ }
-    ensures { λ r. ⌜ r ≡ lateOf m n k v ⌝ }
+// What a later round reads.
+fn late_taps(iv: &[u8], m: u32, n: u32) -> Taps
+    requires { ⌜ Small (now iv) m n 1216 × (111 ≤ n) ⌝ }
+    ensures { λ r. ⌜ r ≡ tapsOf (registersAt (now (iv .entry)) m n) ⌝ }
 {
     let u = 134 + m + 14 * n;
     let a = ago(u + 9, 66, 69, 91, 92, 93);
     let b = ago(u + 3, 69, 78, 82, 83, 84);
     let c = ago(u + 6, 66, 87, 109, 110, 111);
-    Taps { a, b, c, k, v }
-}
-
-// The bit of K and of IV that leaves K* and IV* in round n: 127, then 126, down to 0, and from 127 again.
-fn leaving(n: u32) -> u32
-    ensures { λ r. ⌜ r ≡ 127 - n % 128 ⌝ }
-{
-    127 - n % 128
-}
-
-fn taps_at(iv: &[u8], m: u32, n: u32) -> Taps
-    requires { ⌜ Small (now iv) m n 1216 ⌝ }
-    ensures { λ r. ⌜ r ≡ tapsOf (registersAt (now (iv .entry)) m n) ⌝ }
-{
     let k = leaving(n);
     let v = const_wire(iv, m, k);
-    if n < 111 {
-        early_taps(iv, m, n, k, v)
-    } else {
-        late_taps(m, n, k, v)
-    }
+    Taps { a, b, c, k, v }
 }
 
 // t1, t2, s243 + s288, t3
@@ -242,24 +235,22 @@ fn put_tail(out: &mut [u32], at: usize, w: u32, u: u32, t: Taps)
     put_gain(out, at + 28, w + 3, u + 7, u + 8, c.r, c.s, a.q);
 }
 
-// Round n, without output: 14 gates.
-fn plain_round(out: &mut [u32], iv: &[u8], m: u32, n: u32)
-    requires { ⌜ Small (now iv) m n 1152 × (64523 ≤ length (now out)) ⌝ }
-    ensures { λ _. ⌜ now (out .exit) ≡ putGates (now (out .entry)) (plainAt n) (plainGates (now (iv .entry)) m n) ⌝ }
+// Round n without output, over what it reads: 14 gates.
+fn plain_round(out: &mut [u32], m: u32, n: u32, t: Taps)
+    requires { ⌜ (m ≤ 64) × (n < 1152) × (64523 ≤ length (now out)) ⌝ }
+    ensures { λ _. ⌜ now (out .exit) ≡ putGates (now (out .entry)) (plainAt n) (plainOf m n t) ⌝ }
 {
-    let t = taps_at(iv, m, n);
     let w = 130 + m + 14 * n;
     let at = 11 + 56 * (n as usize);
     put_head(out, at, w, t);
     put_tail(out, at + 16, w, w + 4, t);
 }
 
-// Round 1,152 + k, with output bit k: 17 gates.
-fn output_round(out: &mut [u32], iv: &[u8], m: u32, k: u32)
-    requires { ⌜ Small (now iv) m k 64 × (64591 + 68 * k ≤ length (now out)) ⌝ }
-    ensures { λ _. ⌜ now (out .exit) ≡ putGates (now (out .entry)) (outputAt k) (outputGates (now (iv .entry)) m k) ⌝ }
+// Round 1,152 + k with output bit k, over what it reads: 17 gates.
+fn output_round(out: &mut [u32], m: u32, k: u32, t: Taps)
+    requires { ⌜ (m ≤ 64) × (k < 64) × (64591 + 68 * k ≤ length (now out)) ⌝ }
+    ensures { λ _. ⌜ now (out .exit) ≡ putGates (now (out .entry)) (outputAt k) (outputOf m k t) ⌝ }
 {
-    let t = taps_at(iv, m, 1152 + k);
     let w = 16258 + m + 17 * k;
     let at = 64523 + 68 * (k as usize);
     put_head(out, at, w, t);
@@ -267,24 +258,38 @@ fn output_round(out: &mut [u32], iv: &[u8], m: u32, k: u32)
     put_tail(out, at + 28, w, w + 7, t);
 }
 
-fn plain_rounds(out: &mut [u32], iv: &[u8], m: u32)
+fn early_rounds(out: &mut [u32], iv: &[u8], m: u32)
     requires { ⌜ (m ≤ 64) × (length (now iv) ≡ 128) × (64523 ≤ length (now out)) ⌝ }
-    ensures { λ _. ⌜ putGates (now (out .exit)) 64523 (outputRest (now (iv .entry)) m 0 m) ≡ putGates (now (out .entry)) 11 (plainRest (now (iv .entry)) m 0 1152) ⌝ }
+    ensures { λ _. ⌜ putGates (now (out .exit)) (plainAt 111) (plainRest (now (iv .entry)) m 111) ≡ putGates (now (out .entry)) (plainAt 0) (plainRest (now (iv .entry)) m 0) ⌝ }
 {
     let mut n: u32 = 0;
+    while n < 111 {
+        let t = early_taps(iv, m, n);
+        plain_round(out, m, n, t);
+        n += 1;
+    }
+}
+
+fn late_rounds(out: &mut [u32], iv: &[u8], m: u32)
+    requires { ⌜ (m ≤ 64) × (length (now iv) ≡ 128) × (64523 ≤ length (now out)) ⌝ }
+    ensures { λ _. ⌜ putGates (now (out .exit)) (outputAt 0) (outputRest (now (iv .entry)) m 0) ≡ putGates (now (out .entry)) (plainAt 111) (plainRest (now (iv .entry)) m 111) ⌝ }
+{
+    let mut n: u32 = 111;
     while n < 1152 {
-        plain_round(out, iv, m, n);
+        let t = late_taps(iv, m, n);
+        plain_round(out, m, n, t);
         n += 1;
     }
 }
 
 fn output_rounds(out: &mut [u32], iv: &[u8], m: u32)
     requires { ⌜ (m ≤ 64) × (length (now iv) ≡ 128) × (64523 + 68 * m ≤ length (now out)) ⌝ }
-    ensures { λ _. ⌜ now (out .exit) ≡ putGates (now (out .entry)) 64523 (outputRest (now (iv .entry)) m 0 m) ⌝ }
+    ensures { λ _. ⌜ now (out .exit) ≡ putGates (now (out .entry)) (outputAt 0) (outputRest (now (iv .entry)) m 0) ⌝ }
 {
     let mut k: u32 = 0;
     while k < m {
-        output_round(out, iv, m, k);
+        let t = late_taps(iv, m, 1152 + k);
+        output_round(out, m, k, t);
         k += 1;
     }
 }
@@ -296,7 +301,8 @@ fn put_rounds(out: &mut [u32], iv: &[u8], m: u32)
 {
     put_gate(out, 3, crate::put::ZERO, 0, 0, 0);
     put_gate(out, 7, crate::put::ONE, 0, 0, 0);
-    plain_rounds(out, iv, m);
+    early_rounds(out, iv, m);
+    late_rounds(out, iv, m);
     output_rounds(out, iv, m);
 }
 

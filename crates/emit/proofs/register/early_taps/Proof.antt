@@ -1,6 +1,5 @@
-use mathlib.Core.Path.{refl}
+use Rattle.emit.proofs.KreyviumPlaces.{taps-are}
 use borrow.Author.Needs.{needs}
-use Rattle.emit.proofs.KreyviumPlaces.{taps-eq}
 use Rattle.emit.proofs.register.early_taps.Statement.{statement}
 use Rattle.emit.proofs.register.early_taps.Tie as tie
 
@@ -13,8 +12,25 @@ five-b-requires c κs = search needs
 five-c-requires : tie.Need-five-c-requires
 five-c-requires c κs = search needs
 
+leaving-requires : tie.Need-leaving-requires
+leaving-requires c κs = search needs
+
+const-wire-requires : tie.Need-const-wire-requires
+const-wire-requires c κs = search needs
+
 returns : tie.Need-returns
-returns c = taps-eq (c .before .before .five-a .ensures) (c .before .five-b .ensures) (c .five-c .ensures) refl refl
+returns c =
+    taps-are _ _ _ _ _ _ _ _ (c .before .before .before .before .before .before .pre .iv)
+    (c .before .before .before .before .five-a .ensures) (c .before .before .before .five-b .ensures) (c .before .before .five-c .ensures)
+    (c .before .leaving .ensures) (c .const-wire .ensures)
 
 pub early-taps-spec : {M : Type 1} → statement M
-early-taps-spec = tie.close (tie.spec five-a-requires five-b-requires five-c-requires returns)
+early-taps-spec =
+    tie.close
+    (tie.spec
+    five-a-requires
+    five-b-requires
+    five-c-requires
+    leaving-requires
+    const-wire-requires
+    returns)

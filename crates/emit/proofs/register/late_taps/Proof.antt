@@ -1,5 +1,6 @@
+use mathlib.Core.Path.{_∙_}
+use Rattle.emit.proofs.KreyviumPlaces.{taps-are, late-a, late-b, late-c}
 use borrow.Author.Needs.{needs}
-use Rattle.emit.proofs.KreyviumPlaces.{late-are}
 use Rattle.emit.proofs.register.late_taps.Statement.{statement}
 use Rattle.emit.proofs.register.late_taps.Tie as tie
 
@@ -30,8 +31,20 @@ add-ago-3 c = search needs
 ago-requires-3 : tie.Need-ago-requires-3
 ago-requires-3 c κs = search needs
 
+leaving-requires : tie.Need-leaving-requires
+leaving-requires c κs = search needs
+
+const-wire-requires : tie.Need-const-wire-requires
+const-wire-requires c κs = search needs
+
 returns : tie.Need-returns
-returns c = late-are _ _ _ _ _ _ _ (c .before .before .ago .ensures) (c .before .ago2 .ensures) (c .ago3 .ensures)
+returns c =
+    let p = c .before .before .before .before .before .before .pre in
+    taps-are _ _ _ _ _ _ _ _ (p .0 .iv)
+    (c .before .before .before .before .ago .ensures ∙ late-a _ _ (p .1) (p .0 .n))
+    (c .before .before .before .ago2 .ensures ∙ late-b _ _ (p .1) (p .0 .n) _)
+    (c .before .before .ago3 .ensures ∙ late-c _ _ (p .1) (p .0 .n) _)
+    (c .before .leaving .ensures) (c .const-wire .ensures)
 
 pub late-taps-spec : {M : Type 1} → statement M
 late-taps-spec =
@@ -46,4 +59,6 @@ late-taps-spec =
     ago-requires-2
     add-ago-3
     ago-requires-3
+    leaving-requires
+    const-wire-requires
     returns)
