@@ -1,8 +1,13 @@
-// Kreyvium's deciphering netlist: document 01, "What is emitted". Rounds count from 0, and those from 1,152 on have an output.
+// Kreyvium's deciphering netlist: document 01, "What is emitted". Rounds count from 0, and those from 1,152 on have an
+// output; m is the number of the record's bits.
 //
 // What a round reads is computed from its number. Of each register it reads what entered 66 to 111 rounds ago, or, in the
 // first 111 rounds, what was loaded. So no round reads what entered in a round with an output, and all that is read entered
 // in rounds of 14 gates.
+use crate::put::AND;
+use crate::put::ONE;
+use crate::put::XOR;
+use crate::put::ZERO;
 use crate::put::put_gate;
 use crate::put::put_header;
 ghost use mathlib.Core.Path.{_≡_};
@@ -34,7 +39,7 @@ pub(crate) struct Taps {
     pub(crate) v: u32,
 }
 
-// The first of the last ten gates of round n, for a record of m bits.
+// The first of the last ten gates of round n, without output.
 fn tail_at(m: u32, n: u32) -> u32
     requires { ⌜ (m ≤ 64) × (n ≤ 1151) ⌝ }
     ensures { λ r. ⌜ r ≡ tailAt m n ⌝ }
@@ -75,6 +80,7 @@ fn wire_b(iv: &[u8], m: u32, n: u32, j: u32) -> u32
     }
 }
 
+// What was loaded into the third register: 44 bits of the IV, 66 ones, a zero.
 fn start_c(iv: &[u8], m: u32, i: u32) -> u32
     requires { ⌜ (m ≤ 64) × (length (now iv) ≡ 128) ⌝ }
     ensures { λ r. ⌜ r ≡ startC (now (iv .entry)) m i ⌝ }
@@ -173,7 +179,7 @@ fn ago(x: u32, p: u32, q: u32, r: u32, s: u32, t: u32) -> Five
     }
 }
 
-// What a later round reads.
+// What a later round reads: s66 entered 66 rounds ago, s162 69 rounds ago, and so on.
 fn late_taps(iv: &[u8], m: u32, n: u32) -> Taps
     requires { ⌜ Small (now iv) m n 1216 × (111 ≤ n) ⌝ }
     ensures { λ r. ⌜ r ≡ tapsOf (registersAt (now (iv .entry)) m n) ⌝ }
@@ -195,10 +201,10 @@ fn put_head(out: &mut [u32], at: usize, w: u32, t: Taps)
     let a = t.a;
     let b = t.b;
     let c = t.c;
-    put_gate(out, at, crate::put::XOR, a.p, a.t, 0);
-    put_gate(out, at + 4, crate::put::XOR, b.p, b.t, 0);
-    put_gate(out, at + 8, crate::put::XOR, c.p, c.t, 0);
-    put_gate(out, at + 12, crate::put::XOR, w + 2, t.k, 0);
+    put_gate(out, at, XOR, a.p, a.t, 0);
+    put_gate(out, at + 4, XOR, b.p, b.t, 0);
+    put_gate(out, at + 8, XOR, c.p, c.t, 0);
+    put_gate(out, at + 12, XOR, w + 2, t.k, 0);
 }
 
 // t1 + t2, + t3, + the record bit on wire x
@@ -206,9 +212,9 @@ fn put_out(out: &mut [u32], at: usize, w: u32, x: u32)
     requires { ⌜ (at + 12 ≤ length (now out)) × (w ≤ 20000) ⌝ }
     ensures { λ _. ⌜ now (out .exit) ≡ putGates (now (out .entry)) at (outGates w (w + 4) x) ⌝ }
 {
-    put_gate(out, at, crate::put::XOR, w, w + 1, 0);
-    put_gate(out, at + 4, crate::put::XOR, w + 4, w + 3, 0);
-    put_gate(out, at + 8, crate::put::XOR, w + 4 + 1, x, 0);
+    put_gate(out, at, XOR, w, w + 1, 0);
+    put_gate(out, at + 4, XOR, w + 4, w + 3, 0);
+    put_gate(out, at + 8, XOR, w + 4 + 1, x, 0);
 }
 
 // The product of p and q, on wire u; it is added to the sum t, on wire v; then y.
@@ -216,9 +222,9 @@ fn put_gain(out: &mut [u32], at: usize, t: u32, u: u32, v: u32, p: u32, q: u32, 
     requires { ⌜ at + 12 ≤ length (now out) ⌝ }
     ensures { λ _. ⌜ now (out .exit) ≡ putGates (now (out .entry)) at (gainOf t u v p q y) ⌝ }
 {
-    put_gate(out, at, crate::put::AND, p, q, 0);
-    put_gate(out, at + 4, crate::put::XOR, t, u, 0);
-    put_gate(out, at + 8, crate::put::XOR, v, y, 0);
+    put_gate(out, at, AND, p, q, 0);
+    put_gate(out, at + 4, XOR, t, u, 0);
+    put_gate(out, at + 8, XOR, v, y, 0);
 }
 
 // What t1, t2 and t3 gain; u is the first of the ten gates.
@@ -230,12 +236,12 @@ fn put_tail(out: &mut [u32], at: usize, w: u32, u: u32, t: Taps)
     let b = t.b;
     let c = t.c;
     put_gain(out, at, w, u, u + 1, a.r, a.s, b.q);
-    put_gate(out, at + 12, crate::put::XOR, u + 2, t.v, 0);
+    put_gate(out, at + 12, XOR, u + 2, t.v, 0);
     put_gain(out, at + 16, w + 1, u + 4, u + 5, b.r, b.s, c.q);
     put_gain(out, at + 28, w + 3, u + 7, u + 8, c.r, c.s, a.q);
 }
 
-// Round n without output, over what it reads: 14 gates.
+// Round n without output, over what it reads: 14 gates, behind the header, ZERO, ONE and the rounds before.
 fn plain_round(out: &mut [u32], m: u32, n: u32, t: Taps)
     requires { ⌜ (m ≤ 64) × (n < 1152) × (64523 ≤ length (now out)) ⌝ }
     ensures { λ _. ⌜ now (out .exit) ≡ putGates (now (out .entry)) (plainAt n) (plainOf m n t) ⌝ }
@@ -299,8 +305,8 @@ fn put_rounds(out: &mut [u32], iv: &[u8], m: u32)
     requires { ⌜ (m ≤ 64) × (length (now iv) ≡ 128) × (64523 + 68 * m ≤ length (now out)) ⌝ }
     ensures { λ _. ⌜ now (out .exit) ≡ putGates (now (out .entry)) 3 (kreyviumGates (now (iv .entry)) m) ⌝ }
 {
-    put_gate(out, 3, crate::put::ZERO, 0, 0, 0);
-    put_gate(out, 7, crate::put::ONE, 0, 0, 0);
+    put_gate(out, 3, ZERO, 0, 0, 0);
+    put_gate(out, 7, ONE, 0, 0, 0);
     early_rounds(out, iv, m);
     late_rounds(out, iv, m);
     output_rounds(out, iv, m);
@@ -318,7 +324,7 @@ fn put_outs(out: &mut [u32], m: u32)
     }
 }
 
-// The netlist that deciphers a record of m bits.
+// The whole netlist.
 pub(crate) fn put_kreyvium(out: &mut [u32], iv: &[u8], m: u32)
     requires { ⌜ (m ≤ 64) × (length (now iv) ≡ 128) × (length (words (kreyviumNet (now iv) m)) ≤ length (now out)) ⌝ }
     ensures { λ _. ⌜ now (out .exit) ≡ over (words (kreyviumNet (now (iv .entry)) m)) (now (out .entry)) ⌝ }

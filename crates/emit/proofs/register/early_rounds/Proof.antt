@@ -22,7 +22,7 @@ loop-holds c = (refl, omega arith, refl)
 early-taps-requires : tie.Need-early-taps-requires Inv-loop μ-loop
 early-taps-requires c κs =
     let p = c .before .before .before .before .pre in
-    record { iv = p .1; m = p .0; n = c .loop-test .taken }
+    record { iv = p .1; m = p .0; n = omega arith }
 
 plain-round-requires : tie.Need-plain-round-requires Inv-loop μ-loop
 plain-round-requires c κs = (c .before .before .before .before .before .before .pre .0, omega arith, omega arith)
