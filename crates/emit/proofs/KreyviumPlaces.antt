@@ -15,7 +15,7 @@ use Rattle.rounds.proofs.Lists.{length-push, Sized}
 use Rattle.rounds.proofs.Net.{start-sized}
 use Rattle.emit.specs.declared.register.Five.{Five}
 use Rattle.emit.specs.declared.register.Taps.{Taps}
-use Rattle.emit.specs.KreyviumPlaces.{tailAt, registersAt, constWire, wireA, wireB, startC, wireC, fiveA, fiveB, fiveC, tapsOf, placesA, placesB, placesC, Small}
+use Rattle.emit.specs.KreyviumPlaces.{tailAt, registersAt, constWire, wireA, wireB, startC, wireC, fiveA, fiveB, fiveC, tapsOf, placesA, placesB, placesC, agoOf}
 use Rattle.emit.proofs.KreyviumCases.{a-new, a-old, b-new, b-old, c-new, c-old, c-iv, c-ones, c-zero}
 
 getD-push : (x : ℕ) (l : List ℕ) (j : ℕ) → j < length l → getD (push x l) j 0 ≡ getD (x ∷ l) j 0
@@ -196,9 +196,39 @@ taps-eq : {a a' b b' c c' : Five} {k k' v v' : ℕ} → a ≡ a' → b ≡ b' �
     → _≡_ {A = Taps} (record { a = a; b = b; c = c; k = k; v = v }) (record { a = a'; b = b'; c = c'; k = k'; v = v' })
 taps-eq p q r s t i = record { a = p i; b = q i; c = r i; k = s i; v = t i }
 
-pub taps-are : (iv : List ℕ) (m n : ℕ) (a b c : Five) (k v : ℕ) → Small iv m n
-    → a ≡ placesA m n → b ≡ placesB iv m n → c ≡ placesC iv m n → k ≡ 127 - n % 128 → v ≡ constWire iv m k
-    → _≡_ {A = Taps} (record { a = a; b = b; c = c; k = k; v = v }) (tapsOf (registersAt iv m n))
-taps-are iv m n a b c k v h ea eb ec ek ev =
-    taps-eq (ea ∙ fivesA iv m (h .iv) n) (eb ∙ fivesB iv m (h .iv) n) (ec ∙ fivesC iv m (h .iv) n)
-    (ek ∙ placeK iv m (h .iv) n) (ev ∙ ap (constWire iv m) ek ∙ placeV iv m (h .iv) n)
+-- what a round reads, by its places
+pub taps-are : (iv : List ℕ) (m n k v : ℕ) (a b c : Five) → length iv ≡ 128 → a ≡ placesA m n → b ≡ placesB iv m n → c ≡ placesC iv m n
+    → k ≡ 127 - n % 128 → v ≡ constWire iv m k → _≡_ {A = Taps} (record { a = a; b = b; c = c; k = k; v = v }) (tapsOf (registersAt iv m n))
+taps-are iv m n k v a b c h ea eb ec ek ev =
+    taps-eq (ea ∙ fivesA iv m h n) (eb ∙ fivesB iv m h n) (ec ∙ fivesC iv m h n) (ek ∙ placeK iv m h n) (ev ∙ ap (constWire iv m) ek ∙ placeV iv m h n)
+
+-- and in a late round, where all of it entered
+entered-ago : (m n j p d : ℕ) → p ≡ j + 1 → 65 ≤ j → j < n → n < 1216 → 134 + m + 14 * n + d - 14 * p ≡ tailAt m (n - j - 1) + d
+unfolding tailAt
+entered-ago m n j p d e h q l = omega arith
+
+module _ (m n : ℕ) (h : 111 ≤ n) (l : n < 1216) where
+  agoA : (j p : ℕ) → p ≡ j + 1 → 65 ≤ j → j < 111 → 134 + m + 14 * n + 9 - 14 * p ≡ wireA m n j
+  agoA j p e a b = entered-ago m n j p 9 e a (omega arith) l ∙ a-new m n j _ (omega arith) refl
+
+  pub late-a : agoOf (134 + m + 14 * n + 9) 66 69 91 92 93 ≡ placesA m n
+  late-a =
+      five-eq (agoA 65 66 refl (omega arith) (omega arith)) (agoA 68 69 refl (omega arith) (omega arith)) (agoA 90 91 refl (omega arith) (omega arith))
+      (agoA 91 92 refl (omega arith) (omega arith)) (agoA 92 93 refl (omega arith) (omega arith))
+
+  module _ (iv : List ℕ) where
+    agoB : (j p : ℕ) → p ≡ j + 1 → 65 ≤ j → j < 111 → 134 + m + 14 * n + 3 - 14 * p ≡ wireB iv m n j
+    agoB j p e a b = entered-ago m n j p 3 e a (omega arith) l ∙ b-new iv m n j _ (omega arith) refl
+
+    agoC : (j p : ℕ) → p ≡ j + 1 → 65 ≤ j → j < 111 → 134 + m + 14 * n + 6 - 14 * p ≡ wireC iv m n j
+    agoC j p e a b = entered-ago m n j p 6 e a (omega arith) l ∙ c-new iv m n j _ (omega arith) refl
+
+    pub late-b : agoOf (134 + m + 14 * n + 3) 69 78 82 83 84 ≡ placesB iv m n
+    late-b =
+        five-eq (agoB 68 69 refl (omega arith) (omega arith)) (agoB 77 78 refl (omega arith) (omega arith)) (agoB 81 82 refl (omega arith) (omega arith))
+        (agoB 82 83 refl (omega arith) (omega arith)) (agoB 83 84 refl (omega arith) (omega arith))
+
+    pub late-c : agoOf (134 + m + 14 * n + 6) 66 87 109 110 111 ≡ placesC iv m n
+    late-c =
+        five-eq (agoC 65 66 refl (omega arith) (omega arith)) (agoC 86 87 refl (omega arith) (omega arith)) (agoC 108 109 refl (omega arith) (omega arith))
+        (agoC 109 110 refl (omega arith) (omega arith)) (agoC 110 111 refl (omega arith) (omega arith))

@@ -11,31 +11,27 @@ use Rattle.rounds.specs.Gates.{headGates, outGates, tailGates, gatesFrom, moveW
 use Rattle.emit.specs.declared.register.Taps.{Taps}
 use Rattle.emit.specs.Put.{putGates}
 use Rattle.emit.specs.KreyviumPlaces.{tailAt, registersAt, tapsOf, headOf, tailOf}
-use Rattle.emit.specs.KreyviumRounds.{plainAt, plainWire, plainGates, plainRest, outputAt, outputWire, outputGates, outputRest}
+use Rattle.emit.specs.KreyviumRounds.{plainAt, plainWire, plainOf, plainRest, outputAt, outputWire, outputOf, outputRest}
 use Rattle.emit.proofs.Puts.{put-append, more}
 use Rattle.emit.proofs.KreyviumPuts.{two}
 
 -- the code's calls make a round
-pub plain-put : (iv : List ℕ) (m n : ℕ) (t : Taps) (out o₁ o₂ : List ℕ) → t ≡ tapsOf (registersAt iv m n)
+pub plain-put : (m n : ℕ) (t : Taps) (out o₁ o₂ : List ℕ)
     → o₁ ≡ putGates out (plainAt n) (headOf (plainWire m n) t) → o₂ ≡ putGates o₁ (plainAt n + 16) (tailOf (plainWire m n) (plainWire m n + 4) t)
-    → o₂ ≡ putGates out (plainAt n) (plainGates iv m n)
-unfolding plainGates
-plain-put iv m n t out o₁ o₂ e p q =
+    → o₂ ≡ putGates out (plainAt n) (plainOf m n t)
+plain-put m n t out o₁ o₂ p q =
     more out o₁ o₂ (plainAt n) (plainAt n + 16) (headOf (plainWire m n) t) (tailOf (plainWire m n) (plainWire m n + 4) t) p q refl
-    ∙ ap (λ (t : Taps). putGates out (plainAt n) (headOf (plainWire m n) t ++ tailOf (plainWire m n) (plainWire m n + 4) t)) e
 
-pub output-put : (iv : List ℕ) (m k : ℕ) (t : Taps) (out o₁ o₂ o₃ : List ℕ) → t ≡ tapsOf (registersAt iv m (1152 + k))
+pub output-put : (m k : ℕ) (t : Taps) (out o₁ o₂ o₃ : List ℕ)
     → o₁ ≡ putGates out (outputAt k) (headOf (outputWire m k) t)
     → o₂ ≡ putGates o₁ (outputAt k + 16) (outGates (outputWire m k) (outputWire m k + 4) (128 + k))
     → o₃ ≡ putGates o₂ (outputAt k + 28) (tailOf (outputWire m k) (outputWire m k + 7) t)
-    → o₃ ≡ putGates out (outputAt k) (outputGates iv m k)
-unfolding outputGates
-output-put iv m k t out o₁ o₂ o₃ e p q r =
+    → o₃ ≡ putGates out (outputAt k) (outputOf m k t)
+output-put m k t out o₁ o₂ o₃ p q r =
     let w = outputWire m k in
     let outs = outGates w (w + 4) (128 + k) in
     more out o₁ o₃ (outputAt k) (outputAt k + 16) (headOf w t) (outs ++ tailOf w (w + 7) t) p
     (more o₁ o₂ o₃ (outputAt k + 16) (outputAt k + 28) outs (tailOf w (w + 7) t) q r (omega arith)) refl
-    ∙ ap (λ (t : Taps). putGates out (outputAt k) (headOf w t ++ (outs ++ tailOf w (w + 7) t))) e
 
 tail-plain : (m n : ℕ) → n < 1152 → tailAt m n ≡ plainWire m n + 4
 unfolding tailAt
@@ -46,10 +42,10 @@ unfolding tailAt
 tail-output m k = omega arith
 
 -- a turn of each loop
-pub plain-turn : (iv : List ℕ) (m n : ℕ) (out o : List ℕ) → n < 1152 → o ≡ putGates out (plainAt n) (plainGates iv m n)
-    → putGates o (plainAt (n + 1)) (plainRest iv m (n + 1) (1152 - (n + 1))) ≡ putGates out (plainAt n) (plainRest iv m n (1152 - n))
-unfolding plainGates plainRest gatesFrom registersAt
-plain-turn iv m n out o h e =
+pub plain-turn : (iv : List ℕ) (m n : ℕ) (t : Taps) (out o : List ℕ) → n < 1152 → t ≡ tapsOf (registersAt iv m n) → o ≡ putGates out (plainAt n) (plainOf m n t)
+    → putGates o (plainAt (n + 1)) (plainRest iv m (n + 1)) ≡ putGates out (plainAt n) (plainRest iv m n)
+unfolding plainRest gatesFrom registersAt
+plain-turn iv m n t out o h et e =
     let left = 1152 - (n + 1) in
     let w = plainWire m n in
     let s = registersAt iv m n in
@@ -60,14 +56,14 @@ plain-turn iv m n out o h e =
     let rest : List Gate = gatesFrom left m 128 (w + 14) (moveWires (w + 4) s) in
     let r : gatesFrom left m 128 (plainWire m (n + 1)) (registersAt iv m (n + 1)) ≡ rest =
     ap₂ (gatesFrom left m 128) p (ap (registersAt iv m) g ∙ ap (λ (x : ℕ). moveWires x s) u) in
-    ap₂ (λ (z : List ℕ) (y : List Gate). putGates z (plainAt (n + 1)) y) e r
+    ap₂ (λ (z : List ℕ) (y : List Gate). putGates z (plainAt (n + 1)) y) (e ∙ ap (λ (t : Taps). putGates out (plainAt n) (plainOf m n t)) et) r
     ∙ put-append (headGates w s ++ tailGates w (w + 4) s) rest out (plainAt n) (plainAt (n + 1)) (omega arith)
     ∙ sym (ap (λ (x : ℕ). putGates out (plainAt n) (gatesFrom x m 128 w s)) f)
 
-pub output-turn : (iv : List ℕ) (m k : ℕ) (out o : List ℕ) → k < m → o ≡ putGates out (outputAt k) (outputGates iv m k)
-    → putGates o (outputAt (k + 1)) (outputRest iv m (k + 1) (m - (k + 1))) ≡ putGates out (outputAt k) (outputRest iv m k (m - k))
-unfolding outputGates outputRest gatesFrom registersAt
-output-turn iv m k out o h e =
+pub output-turn : (iv : List ℕ) (m k : ℕ) (t : Taps) (out o : List ℕ) → k < m → t ≡ tapsOf (registersAt iv m (1152 + k)) → o ≡ putGates out (outputAt k) (outputOf m k t)
+    → putGates o (outputAt (k + 1)) (outputRest iv m (k + 1)) ≡ putGates out (outputAt k) (outputRest iv m k)
+unfolding outputRest gatesFrom registersAt
+output-turn iv m k t out o h et e =
     let left = m - (k + 1) in
     let w = outputWire m k in
     let s = registersAt iv m (1152 + k) in
@@ -81,42 +77,38 @@ output-turn iv m k out o h e =
     let r : gatesFrom 0 left (128 + (k + 1)) (outputWire m (k + 1)) (registersAt iv m (1152 + (k + 1))) ≡ rest =
     ap₂ (λ (y z : ℕ). gatesFrom 0 left y z (registersAt iv m (1152 + (k + 1)))) x p
     ∙ ap (gatesFrom 0 left (suc (128 + k)) (w + 17)) (ap (registersAt iv m) g ∙ ap (λ (x : ℕ). moveWires x s) u) in
-    ap₂ (λ (z : List ℕ) (y : List Gate). putGates z (outputAt (k + 1)) y) e r
+    ap₂ (λ (z : List ℕ) (y : List Gate). putGates z (outputAt (k + 1)) y) (e ∙ ap (λ (t : Taps). putGates out (outputAt k) (outputOf m k t)) et) r
     ∙ put-append (headGates w s ++ (outs ++ tailGates w (w + 7) s)) rest out (outputAt k) (outputAt (k + 1)) (omega arith)
     ∙ sym (ap (λ (x : ℕ). putGates out (outputAt k) (gatesFrom 0 x (128 + k) w s)) f)
 
 -- where the loops end
-pub plain-end : (iv : List ℕ) (m n : ℕ) (out o : List ℕ) → n ≤ 1152 → 1152 ≤ n
-    → putGates o (plainAt n) (plainRest iv m n (1152 - n)) ≡ putGates out 11 (plainRest iv m 0 1152)
-    → putGates o 64523 (outputRest iv m 0 m) ≡ putGates out 11 (plainRest iv m 0 1152)
+pub early-end : (iv : List ℕ) (m n : ℕ) (o : List ℕ) → n ≤ 111 → 111 ≤ n → putGates o (plainAt 111) (plainRest iv m 111) ≡ putGates o (plainAt n) (plainRest iv m n)
+early-end iv m n o h g = let e : 111 ≡ n = omega arith in ap (λ (x : ℕ). putGates o (plainAt x) (plainRest iv m x)) e
+
+pub late-end : (iv : List ℕ) (m n : ℕ) (o : List ℕ) → n ≤ 1152 → 1152 ≤ n → putGates o (outputAt 0) (outputRest iv m 0) ≡ putGates o (plainAt n) (plainRest iv m n)
 unfolding plainRest outputRest
-plain-end iv m n out o h g e =
-    let q : n ≡ 1152 = omega arith in
-    let f : 1152 - n ≡ 0 = omega arith in
-    let a : plainAt n ≡ 64523 = omega arith in
-    let w : plainWire m n ≡ outputWire m 0 = omega arith in
-    sym (ap₂ (λ (x y : ℕ). putGates o x (gatesFrom y m 128 (plainWire m n) (registersAt iv m n))) a f
-    ∙ ap₂ (λ (x y : ℕ). putGates o 64523 (gatesFrom 0 m 128 x (registersAt iv m y))) w q) ∙ e
+late-end iv m n o h g =
+    let q : 1152 ≡ n = omega arith in
+    let f : m - 0 ≡ m = omega arith in
+    let w : outputWire m 0 ≡ plainWire m 1152 = omega arith in
+    ap₂ (λ (x y : ℕ). putGates o 64523 (gatesFrom 0 x 128 y (registersAt iv m 1152))) f w ∙ ap (λ (x : ℕ). putGates o (plainAt x) (plainRest iv m x)) q
 
-pub output-end : (iv : List ℕ) (m k : ℕ) (out o : List ℕ) → k ≤ m → m ≤ k
-    → putGates o (outputAt k) (outputRest iv m k (m - k)) ≡ putGates out 64523 (outputRest iv m 0 m)
-    → o ≡ putGates out 64523 (outputRest iv m 0 m)
+pub output-end : (iv : List ℕ) (m k : ℕ) (o : List ℕ) → k ≤ m → m ≤ k → o ≡ putGates o (outputAt k) (outputRest iv m k)
 unfolding outputRest gatesFrom putGates
-output-end iv m k out o h g e =
-    let f : m - k ≡ 0 = omega arith in
-    ap (λ (x : ℕ). putGates o (outputAt k) (gatesFrom 0 x (128 + k) (outputWire m k) (registersAt iv m (1152 + k)))) (sym f) ∙ e
+output-end iv m k o h g =
+    let f : 0 ≡ m - k = omega arith in
+    ap (λ (x : ℕ). putGates o (outputAt k) (gatesFrom 0 x (128 + k) (outputWire m k) (registersAt iv m (1152 + k)))) f
 
--- ZERO, ONE, the rounds without output and those with one
-pub all-put : (iv : List ℕ) (m : ℕ) (out o₁ o₂ o₃ o₄ : List ℕ)
+-- ZERO, ONE and all rounds
+pub all-put : (iv : List ℕ) (m : ℕ) (out o₁ o₂ o₃ o₄ o₅ : List ℕ)
     → o₁ ≡ sets out 3 (gateWords Zero) → o₂ ≡ sets o₁ 7 (gateWords One)
-    → putGates o₃ 64523 (outputRest iv m 0 m) ≡ putGates o₂ 11 (plainRest iv m 0 1152) → o₄ ≡ putGates o₃ 64523 (outputRest iv m 0 m)
-    → o₄ ≡ putGates out 3 (kreyviumGates iv m)
+    → putGates o₃ (plainAt 111) (plainRest iv m 111) ≡ putGates o₂ (plainAt 0) (plainRest iv m 0)
+    → putGates o₄ (outputAt 0) (outputRest iv m 0) ≡ putGates o₃ (plainAt 111) (plainRest iv m 111)
+    → o₅ ≡ putGates o₄ (outputAt 0) (outputRest iv m 0)
+    → o₅ ≡ putGates out 3 (kreyviumGates iv m)
 unfolding kreyviumGates plainRest registersAt
-all-put iv m out o₁ o₂ o₃ o₄ e₁ e₂ e₃ e₄ =
+all-put iv m out o₁ o₂ o₃ o₄ o₅ e₁ e₂ e₃ e₄ e₅ =
     let w : plainWire m 0 ≡ 130 + m = omega arith in
-    more out o₂ o₄ 3 11 (Zero ∷ One ∷ []) (gatesFrom 1152 m 128 (plainWire m 0) (startWires iv m))
-    (two out o₁ o₂ 3 7 Zero One e₁ e₂ refl) (e₄ ∙ e₃) refl
+    more out o₂ o₅ 3 11 (Zero ∷ One ∷ []) (gatesFrom 1152 m 128 (plainWire m 0) (startWires iv m))
+    (two out o₁ o₂ 3 7 Zero One e₁ e₂ refl) (e₅ ∙ e₄ ∙ e₃) refl
     ∙ ap (λ (x : ℕ). putGates out 3 (Zero ∷ One ∷ gatesFrom 1152 m 128 x (startWires iv m))) w
-
-pub output-start : (iv : List ℕ) (m : ℕ) (out : List ℕ) → putGates out 64523 (outputRest iv m 0 (m - 0)) ≡ putGates out 64523 (outputRest iv m 0 m)
-output-start iv m out = let e : m - 0 ≡ m = omega arith in ap (λ (x : ℕ). putGates out 64523 (outputRest iv m 0 x)) e

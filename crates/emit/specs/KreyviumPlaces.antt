@@ -1,7 +1,7 @@
 -- Where the wires of Kreyvium's registers stand, in closed form. Only promises of private functions cite this.
 use mathlib.Core.Path.{_≡_}
 use mathlib.Core.List.{List, [], _∷_, _++_}
-use Prim.Native.Nat.{ℕ, zero, suc, _+_, _-_, _*_, _≤_}
+use Prim.Native.Nat.{ℕ, zero, suc, _+_, _-_, _*_, _≤_, _<_}
 use lib.Dec.{ltb}
 use lib.ListN.{getD, length}
 use Rattle.netlist.specs.declared.gate.Gate.{Gate}
@@ -61,6 +61,10 @@ placesB iv m n = record { p = wireB iv m n 68; q = wireB iv m n 77; r = wireB iv
 abbrev pub placesC : List ℕ → ℕ → ℕ → Five
 placesC iv m n = record { p = wireC iv m n 65; q = wireC iv m n 86; r = wireC iv m n 108; s = wireC iv m n 109; t = wireC iv m n 110 }
 
+-- what entered p, q, r, s and t rounds of 14 gates ago, where x enters now
+abbrev pub agoOf : ℕ → ℕ → ℕ → ℕ → ℕ → ℕ → Five
+agoOf x p q r s t = record { p = x - 14 * p; q = x - 14 * q; r = x - 14 * r; s = x - 14 * s; t = x - 14 * t }
+
 -- the gates of a round over what it reads: headOf w (tapsOf s) is headGates w s, and tailOf alike
 abbrev pub headOf : ℕ → Taps → List Gate
 headOf w t =
@@ -79,7 +83,8 @@ tailOf w u t =
     ++ ((Xor (u + 2) (t .v) ∷ [])
     ++ (gainOf (w + 1) (u + 4) (u + 5) (t .b .r) (t .b .s) (t .c .q) ++ gainOf (w + 3) (u + 7) (u + 8) (t .c .r) (t .c .s) (t .a .q)))
 
-pub record Small (l : List ℕ) (a b : ℕ) : Type 0 where
+-- what is lent, and a round before the one at which they end
+pub record Small (l : List ℕ) (bits round end : ℕ) : Type 0 where
   pub iv : length l ≡ 128
-  pub m : a ≤ 64
-  pub n : b ≤ 1216
+  pub m : bits ≤ 64
+  pub n : round < end

@@ -3,12 +3,6 @@ use borrow.Author.Needs.{needs}
 use Rattle.emit.proofs.register.output_round.Statement.{statement}
 use Rattle.emit.proofs.register.output_round.Tie as tie
 
-add-taps-at : tie.Need-add-taps-at
-add-taps-at c = search needs
-
-taps-at-requires : tie.Need-taps-at-requires
-taps-at-requires c κs = search needs
-
 add-w : tie.Need-add-w
 add-w c = search needs
 
@@ -49,14 +43,15 @@ same-length : tie.Need-same-length
 same-length c = search needs
 
 returns : tie.Need-returns
-returns c = output-put _ _ _ _ _ _ _ _ (c .before .before .before .before .before .before .before .before .before .before .before .before .taps-at .ensures) (c .before .before .before .before .before .before .before .before .before .before .put-head .ensures) (c .before .before .before .before .before .before .put-out .ensures) (c .before .before .put-tail .ensures)
+returns c =
+    output-put _ _ _ _ _ _ _ (c .before .before .before .before .before .before .before .before .before .before .put-head .ensures)
+    (c .before .before .before .before .before .before .put-out .ensures)
+    (c .before .before .put-tail .ensures)
 
 pub output-round-spec : {M : Type 1} → statement M
 output-round-spec =
     tie.close
     (tie.spec
-    add-taps-at
-    taps-at-requires
     add-w
     mul-w
     add-w-2

@@ -1,26 +1,34 @@
-use Rattle.emit.proofs.KreyviumRounds.{output-start}
 use mathlib.Core.Path.{_≡_, refl, ap, _∙_}
-use lib.ListN.{length}
 use Prim.Native.Nat.{_-_, _≤_}
+use native.Mathlib.Omega.{arith}
+use lib.ListN.{length}
 use Rattle.emit.specs.Put.{putGates}
 use Rattle.emit.specs.KreyviumRounds.{outputAt, outputRest}
-use Rattle.emit.proofs.KreyviumRounds.{output-turn, output-end}
 use Rattle.emit.proofs.Puts.{put-length}
-use native.Mathlib.Omega.{arith}
+use Rattle.emit.proofs.KreyviumRounds.{output-turn, output-end}
 use Rattle.emit.proofs.register.output_rounds.Statement.{statement}
 use Rattle.emit.proofs.register.output_rounds.Tie as tie
 
 abbrev Inv-loop : tie.InvT-loop
-Inv-loop out₀ iv m k₀ out k = (putGates out (outputAt k) (outputRest iv m k (m - k)) ≡ putGates out₀ 64523 (outputRest iv m 0 m)) × (k ≤ m) × (length out ≡ length out₀)
+Inv-loop out₀ iv m k₀ out k =
+    (putGates out (outputAt k) (outputRest iv m k) ≡ putGates out₀ (outputAt 0) (outputRest iv m 0)) × (k ≤ m) × (length out ≡ length out₀)
 
 abbrev μ-loop : tie.MeasureT-loop
 μ-loop out₀ iv m k₀ out k = m - k
 
 loop-holds : tie.Need-loop-holds Inv-loop μ-loop
-loop-holds c = (output-start _ _ _, omega arith, refl)
+loop-holds c = (refl, omega arith, refl)
+
+add-late-taps : tie.Need-add-late-taps Inv-loop μ-loop
+add-late-taps c = omega arith
+
+late-taps-requires : tie.Need-late-taps-requires Inv-loop μ-loop
+late-taps-requires c κs =
+    let p = c .before .before .before .before .pre in
+    (record { iv = p .1; m = p .0; n = omega (arith, p .0) }, omega arith)
 
 output-round-requires : tie.Need-output-round-requires Inv-loop μ-loop
-output-round-requires c κs = (record { iv = c .before .before .before .before .before .pre .0 .iv; m = c .before .before .before .before .before .pre .0 .m; n = omega (arith, c .before .before .before .before .before .pre .0 .m) }, omega (arith, c .before .before .before .before .before .pre .0 .m), omega arith)
+output-round-requires c κs = (c .before .before .before .before .before .before .pre .0, omega arith, omega arith)
 
 add-k : tie.Need-add-k Inv-loop μ-loop
 add-k c = omega arith
@@ -29,13 +37,19 @@ loop-less : tie.Need-loop-less Inv-loop μ-loop
 loop-less c = omega arith
 
 loop-again : tie.Need-loop-again Inv-loop μ-loop
-loop-again c = (output-turn _ _ _ _ _ (c .before .before .before .before .loop-test .taken) (c .before .before .output-round .ensures) ∙ c .before .before .before .before .before .loop .inv .0, omega arith, ap length (c .before .before .output-round .ensures) ∙ put-length _ _ _ ∙ c .before .before .before .before .before .loop .inv .2)
+loop-again c =
+    let put = c .before .before .output-round .ensures in
+    let inside = c .before .before .before .before .before in (
+      output-turn _ _ _ _ _ _ (inside .loop-test .taken) (c .before .before .before .before .late-taps .ensures) put ∙ inside .before .loop .inv .0,
+      omega arith,
+      ap length put ∙ put-length _ _ _ ∙ inside .before .loop .inv .2,
+    )
 
 same-length : tie.Need-same-length Inv-loop μ-loop
 same-length c = c .before .loop .inv .2
 
 returns : tie.Need-returns Inv-loop μ-loop
-returns c = output-end _ _ _ _ _ (c .before .loop .inv .1) (c .loop-test .left) (c .before .loop .inv .0)
+returns c = output-end _ _ _ _ (c .before .loop .inv .1) (c .loop-test .left) ∙ c .before .loop .inv .0
 
 pub output-rounds-spec : {M : Type 1} → statement M
 output-rounds-spec =
@@ -44,6 +58,8 @@ output-rounds-spec =
     Inv-loop
     μ-loop
     loop-holds
+    add-late-taps
+    late-taps-requires
     output-round-requires
     add-k
     loop-less

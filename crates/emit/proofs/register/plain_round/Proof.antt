@@ -3,9 +3,6 @@ use borrow.Author.Needs.{needs}
 use Rattle.emit.proofs.register.plain_round.Statement.{statement}
 use Rattle.emit.proofs.register.plain_round.Tie as tie
 
-taps-at-requires : tie.Need-taps-at-requires
-taps-at-requires c κs = search needs
-
 add-w : tie.Need-add-w
 add-w c = search needs
 
@@ -37,13 +34,12 @@ same-length : tie.Need-same-length
 same-length c = search needs
 
 returns : tie.Need-returns
-returns c = plain-put _ _ _ _ _ _ _ (c .before .before .before .before .before .before .before .before .taps-at .ensures) (c .before .before .before .before .before .before .put-head .ensures) (c .before .before .put-tail .ensures)
+returns c = plain-put _ _ _ _ _ _ (c .before .before .before .before .before .before .put-head .ensures) (c .before .before .put-tail .ensures)
 
 pub plain-round-spec : {M : Type 1} → statement M
 plain-round-spec =
     tie.close
     (tie.spec
-    taps-at-requires
     add-w
     mul-w
     add-w-2

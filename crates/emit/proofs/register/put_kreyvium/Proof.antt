@@ -19,7 +19,7 @@ put-header-requires c κs = search needs
 put-rounds-requires : tie.Need-put-rounds-requires
 put-rounds-requires c κs =
     let p = c .before .before .before .before .before .before .before .pre in
-    (record { iv = p .1; m = p .0; n = omega arith }, omega (arith, kreyvium-room _ _ _ (p .2)))
+    (p .0, p .1, omega (arith, kreyvium-room _ _ _ (p .2)))
 
 put-outs-requires : tie.Need-put-outs-requires
 put-outs-requires c κs =

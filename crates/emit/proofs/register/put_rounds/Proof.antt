@@ -9,8 +9,11 @@ put-gate-requires c κs = search needs
 put-gate-requires-2 : tie.Need-put-gate-requires-2
 put-gate-requires-2 c κs = search needs
 
-plain-rounds-requires : tie.Need-plain-rounds-requires
-plain-rounds-requires c κs = search needs
+early-rounds-requires : tie.Need-early-rounds-requires
+early-rounds-requires c κs = search needs
+
+late-rounds-requires : tie.Need-late-rounds-requires
+late-rounds-requires c κs = search needs
 
 output-rounds-requires : tie.Need-output-rounds-requires
 output-rounds-requires c κs = search needs
@@ -19,7 +22,12 @@ same-length : tie.Need-same-length
 same-length c = search needs
 
 returns : tie.Need-returns
-returns c = all-put _ _ _ _ _ _ _ (c .before .before .before .before .before .before .before .before .before .before .before .before .before .before .put-gate .ensures) (c .before .before .before .before .before .before .before .before .before .before .put-gate2 .ensures) (c .before .before .before .before .before .before .plain-rounds .ensures) (c .before .before .output-rounds .ensures)
+returns c =
+    all-put _ _ _ _ _ _ _ _ (c .before .before .before .before .before .before .before .before .before .before .before .before .before .before .before .before .before .before .put-gate .ensures)
+    (c .before .before .before .before .before .before .before .before .before .before .before .before .before .before .put-gate2 .ensures)
+    (c .before .before .before .before .before .before .before .before .before .before .early-rounds .ensures)
+    (c .before .before .before .before .before .before .late-rounds .ensures)
+    (c .before .before .output-rounds .ensures)
 
 pub put-rounds-spec : {M : Type 1} → statement M
 put-rounds-spec =
@@ -27,7 +35,8 @@ put-rounds-spec =
     (tie.spec
     put-gate-requires
     put-gate-requires-2
-    plain-rounds-requires
+    early-rounds-requires
+    late-rounds-requires
     output-rounds-requires
     same-length
     returns)
