@@ -7,7 +7,7 @@ use lib.ListN.{length, getD}
 use borrow.Author.Tests.{ne-eqb}
 use Rattle.answer.specs.declared.Answer.the-variants.{Done}
 use Rattle.answer.proofs.Rows.{first-done, then-done, one-of, two-of, three-of}
-use Rattle.answer.proofs.Search.{bits-done}
+use Rattle.answer.proofs.Search.{bits-done, bits-within}
 use Rattle.instance.specs.Table.{sizesOf, keyBits, rowBits, whiteBits}
 use Rattle.instance.proofs.Judged.{row-small, numbers-done, length-done, room-done, rows-done}
 use Rattle.cipher.specs.Judging.{wiringLengths, wiringAnswer, keystreamAnswer, encipherAnswer}
@@ -79,12 +79,6 @@ rows-lent inst m key idx wh s h =
       whitening = omega arith;
       below = λ j l. omega (arith, s .below j (omega (arith, s .indices)), s .keyLength);
     }
-
--- the bits of an accepted list; nothing stands past its end
-pub bits-within : (l : List ℕ) → ((k : ℕ) → k < length l → getD l k 0 ≤ 1) → (i : ℕ) → getD l i 0 ≤ 1
-bits-within [] h i = omega arith
-bits-within (b ∷ l) h zero = h 0 (omega arith)
-bits-within (b ∷ l) h (suc i) = bits-within l (λ k e. h (suc k) (omega arith)) i
 
 -- Kreyvium's key and IV
 pub stream-lent : (inst m : ℕ) (key idx wh : List ℕ) → Lent inst m key idx wh → inst ≡ 6

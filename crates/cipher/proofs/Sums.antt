@@ -1,4 +1,4 @@
--- Laws of sums of bits, place by place.
+-- Adding a record to the keystream, place by place.
 use Prim.Native.Nat.{ℕ, suc, _+_, _%_, _<_, _≤_}
 use mathlib.Core.Path.{_≡_, refl, ap, ap₂, sym, _∙_}
 use mathlib.Core.List.{List, [], _∷_, _++_}
@@ -6,32 +6,10 @@ use native.Mathlib.Omega.{arith}
 use native.Mathlib.Numerals.{add-one}
 use lib.ListN.{length, getD, set, take, drop, length-take}
 use lib.Seq.{take-suc, length-take-le, take-all, getD-append-add, getD-drop}
+use Rattle.answer.specs.Bits.{added}
 use Rattle.answer.specs.Fronts.{over}
 use Rattle.answer.proofs.Over.{over-next}
-use Rattle.cipher.specs.Cipher.{added}
-
-pub added-length : (xs ks : List ℕ) → length xs ≤ length ks → length (added xs ks) ≡ length xs
-unfolding added
-added-length [] ks h = refl
-added-length (x ∷ xs) [] h = absurd (omega arith)
-added-length (x ∷ xs) (k ∷ ks) h = ap suc (added-length xs ks (omega arith))
-
-added-snoc : (xs ks : List ℕ) (x k : ℕ) → length xs ≡ length ks → added (xs ++ x ∷ []) (ks ++ k ∷ []) ≡ added xs ks ++ (x + k) % 2 ∷ []
-unfolding added
-added-snoc [] [] x k e = refl
-added-snoc [] (j ∷ ks) x k e = absurd (omega arith)
-added-snoc (y ∷ xs) [] x k e = absurd (omega arith)
-added-snoc (y ∷ xs) (j ∷ ks) x k e = ap (λ (t : List ℕ). (y + j) % 2 ∷ t) (added-snoc xs ks x k (omega arith))
-
--- Adding the same twice gives the record back.
-pub added-twice : (xs ks : List ℕ) → length xs ≤ length ks → ((i : ℕ) → i < length xs → getD xs i 0 ≤ 1) → added (added xs ks) ks ≡ xs
-unfolding added
-added-twice [] ks h b = refl
-added-twice (x ∷ xs) [] h b = absurd (omega arith)
-added-twice (x ∷ xs) (k ∷ ks) h b = ap₂ _∷_ (back x k (b 0 (omega arith))) (added-twice xs ks (omega arith) (λ i l. b (suc i) (omega arith)))
-  where
-    back : (x k : ℕ) → x ≤ 1 → ((x + k) % 2 + k) % 2 ≡ x
-    back x k h = omega arith
+use Rattle.answer.proofs.Added.{added-length, added-snoc}
 
 -- For the loop: the first i places are added.
 module _ (rec old : List ℕ) (fits : length rec ≤ length old) where

@@ -7,6 +7,7 @@ use native.Mathlib.Omega.{arith}
 use lib.Dec.{eqb}
 use lib.ListN.{length, take, drop}
 use lib.Seq.{length-take-le}
+use Rattle.answer.specs.Bits.{added}
 use Rattle.answer.specs.Choose.{choose}
 use Rattle.answer.specs.Fronts.{over}
 use Rattle.answer.proofs.Over.{length-over, take-over, over-over}
@@ -15,8 +16,8 @@ use Rattle.filter.proofs.Tab.{tab-length}
 use Rattle.kreyvium.specs.Kreyvium.{streamOf}
 use Rattle.kreyvium.proofs.Streams.{stream-length}
 use Rattle.cipher.specs.Rows.{streamBit}
-use Rattle.cipher.specs.Cipher.{keystreamOf, added, encipherOf}
-use Rattle.cipher.proofs.Sums.{added-length}
+use Rattle.cipher.specs.Cipher.{keystreamOf, encipherOf}
+use Rattle.answer.proofs.Added.{added-length}
 
 pub keystream-length : (inst m : ℕ) (key idx wh : List ℕ) → length (keystreamOf inst m key idx wh) ≡ m
 unfolding keystreamOf streamOf

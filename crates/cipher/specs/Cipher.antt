@@ -1,10 +1,11 @@
 -- Keystream and enciphering of the six instances.
-use Prim.Native.Nat.{ℕ, _+_, _%_}
+use Prim.Native.Nat.{ℕ}
 use mathlib.Core.Path.{_≡_}
-use mathlib.Core.List.{List, [], _∷_}
+use mathlib.Core.List.{List}
 use lib.ListN.{length}
 use lib.Dec.{eqb}
 use Rattle.answer.specs.declared.Answer.{Answer}
+use Rattle.answer.specs.Bits.{added}
 use Rattle.answer.specs.Choose.{choose}
 use Rattle.answer.specs.Fronts.{left}
 use Rattle.filter.specs.Filter.{tab}
@@ -15,12 +16,6 @@ use Rattle.cipher.specs.Rows.{streamBit}
 -- the m keystream bits; Kreyvium takes one IV for the whole record
 unfoldable pub keystreamOf : ℕ → ℕ → List ℕ → List ℕ → List ℕ → List ℕ
 keystreamOf inst m key idx wh = choose (eqb inst 6) (streamOf key wh m) (tab (streamBit inst key idx wh) m)
-
--- sums of bits, place by place
-unfoldable pub added : List ℕ → List ℕ → List ℕ
-added [] ks = []
-added (x ∷ xs) [] = []
-added (x ∷ xs) (k ∷ ks) = (x + k) % 2 ∷ added xs ks
 
 -- a record and its keystream; deciphering does the same
 unfoldable pub encipherOf : ℕ → ℕ → List ℕ → List ℕ → List ℕ → List ℕ → List ℕ

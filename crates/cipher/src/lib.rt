@@ -8,9 +8,10 @@ use answer::Answer;
 ghost use mathlib.Core.Path.{_≡_};
 ghost use Prim.Native.Nat.{_≤_};
 ghost use lib.ListN.{length, take};
+ghost use Rattle.answer.specs.Bits.{added};
 ghost use Rattle.answer.specs.Fronts.{over};
 ghost use Rattle.cipher.specs.Lent.{Lent};
-ghost use Rattle.cipher.specs.Cipher.{keystreamOf, added, Streamed, Ciphered};
+ghost use Rattle.cipher.specs.Cipher.{keystreamOf, Streamed, Ciphered};
 
 // The keystream of an accepted wiring, one bit for each place of out.
 fn put_stream(instance: u32, key: &[u8], indices: &[u32], whitening: &[u8], out: &mut [u8])

@@ -7,6 +7,7 @@ use native.Mathlib.Omega.{arith}
 use mathlib.Core.Bool.{not}
 use lib.ListN.{length, getD, take}
 use borrow.Author.Tests.{eq-eqb, le-ltb}
+use Rattle.answer.specs.Bits.{added}
 use Rattle.answer.specs.declared.Answer.{Answer}
 use Rattle.answer.specs.declared.Answer.the-variants.{Done}
 use Rattle.answer.specs.Fronts.{over, left}
@@ -15,8 +16,8 @@ use Rattle.answer.proofs.Search.{done-bits}
 use Rattle.answer.proofs.Over.{take-over, made}
 use Rattle.instance.specs.Judging.{lengthAnswer, roomAnswer}
 use Rattle.cipher.specs.Judging.{wiringAnswer, encipherAnswer}
-use Rattle.cipher.specs.Cipher.{keystreamOf, added, encipherOf, Ciphered}
-use Rattle.cipher.proofs.Sums.{added-length, added-twice}
+use Rattle.cipher.specs.Cipher.{keystreamOf, encipherOf, Ciphered}
+use Rattle.answer.proofs.Added.{added-length, added-twice, added-bits}
 use Rattle.cipher.proofs.Accepted.{encipher-lent}
 use Rattle.cipher.proofs.Written.{keystream-length}
 
@@ -42,14 +43,6 @@ other-record inst m key rec other idx wh n k e l b h =
     (both (both (first-done _ _ t) (both (done-length 2 _ _ l) (then-done _ _ (then-done _ _ t))))
     (both (both (one-of _ _ _ s) (both (done-bits 2 other b) (three-of _ _ _ s)))
     (both (one-of _ _ _ w) (both (two-of _ _ _ w) (done-room 5 k m h)))))
-
--- sums of bits are bits
-added-bits : (xs ks : List ℕ) (i : ℕ) → getD (added xs ks) i 0 ≤ 1
-unfolding added
-added-bits [] ks i = omega arith
-added-bits (x ∷ xs) [] i = omega arith
-added-bits (x ∷ xs) (k ∷ ks) zero = omega arith
-added-bits (x ∷ xs) (k ∷ ks) (suc i) = added-bits xs ks i
 
 -- A call that was lent the record answers Done and leaves m bits at the front of c. Then a call that is lent these
 -- m bits, and room for m, answers Done and leaves the record.

@@ -5,3 +5,9 @@ pub mod Variables
 pub mod Chain
 pub mod Sums
 pub mod Tables
+pub mod Accepted
+pub mod KreyviumCases
+pub mod KreyviumPlaces
+pub mod KreyviumPuts
+pub mod KreyviumRounds
+pub mod KreyviumWords

@@ -34,14 +34,18 @@ thresholdAnswer d n room = refuse 13 0 0 (noThreshold d n) ▹ roomAnswer 1 room
 unfoldable pub decipherNet : ℕ → ℕ → List ℕ → List ℕ → Net
 decipherNet inst m idx wh = choose (eqb inst 6) (kreyviumNet wh m) (rowsNet chain inst idx wh m)
 
--- 1, 2, 3, 4, 5, 6, 7, 8; lists: indices, whitening or IV, result
-unfoldable pub decipherAnswer : ℕ → ℕ → List ℕ → List ℕ → ℕ → Answer
-decipherAnswer inst m idx wh room =
+-- lists: indices, whitening or IV, result. 1 to 7
+unfoldable pub wiringAnswer : ℕ → ℕ → List ℕ → List ℕ → Answer
+wiringAnswer inst m idx wh =
     numbersAnswer inst m
     ▹ (lengthAnswer 1 (length idx) (m * rowBits inst) ▹ lengthAnswer 2 (length wh) (whiteBits inst m))
     ▹ bitsAnswer 2 wh
     ▹ (rowsAnswer 1 (keyBits inst) (rowBits inst) idx ▹ whiteAnswer 2 inst wh)
-    ▹ roomAnswer 3 room (length (words (decipherNet inst m idx wh)))
+
+-- and 8
+unfoldable pub decipherAnswer : ℕ → ℕ → List ℕ → List ℕ → ℕ → Answer
+decipherAnswer inst m idx wh room =
+    wiringAnswer inst m idx wh ▹ roomAnswer 3 room (length (words (decipherNet inst m idx wh)))
 
 -- a call that was due this answer, of this netlist: what it answered and what it left in the result
 pub record Emitted (due : Answer) (net : Net) (out : List ℕ) (r : Answer) (out′ : List ℕ) : Type 0 where

@@ -1,3 +1,5 @@
 // Emission of one-hot, threshold and deciphering netlists: document 01, "What is emitted".
+mod judge;
 mod put;
+mod register;
 mod rows;

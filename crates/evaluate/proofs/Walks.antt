@@ -12,7 +12,8 @@ use Rattle.netlist.specs.Net.{Uses, at, step, run, valAlg, values, eval}
 use Rattle.netlist.specs.Words.{inputsOf, gatesOf, outputsOf, gatePlace, gateAt, gatesAt, netOf}
 use Rattle.netlist.proofs.Gates.{operands-low}
 use Rattle.netlist.proofs.Sim.{run-append, run-length, step-front, each-map}
-use Rattle.netlist.proofs.Bits.{Bits, bits-within, run-bits}
+use Rattle.answer.proofs.Search.{bits-within}
+use Rattle.netlist.proofs.Bits.{Bits, run-bits}
 use Rattle.netlist.proofs.Glued.{map-append, map-agree}
 use Rattle.netlist.proofs.Words.{gates-length, gates-snoc, outs-length, sound-valid}
 use Rattle.evaluate.specs.Ready.{Ready}

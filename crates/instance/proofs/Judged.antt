@@ -78,6 +78,11 @@ pub rows-done : (l N n : ℕ) (s : List ℕ) → rowsAnswer l N n s ≡ Done →
 unfolding rowsAnswer pastKey
 rows-done l N n s e k h = leb-false N (getD s k 0) (first-done-at 5 l (pastKey N s) s (first-done _ _ e) k h)
 
+pub past-none : (N : ℕ) (s : List ℕ) (r : ℕ) → r ≡ first (pastKey N s) (length s) → length s ≤ r → (k : ℕ) → k < length s → getD s k 0 < N
+unfolding pastKey
+past-none N s r e h k l =
+    leb-false N (getD s k 0) (first-done-at 5 0 (pastKey N s) s (first-go 5 0 (pastKey N s) s r e h) k l)
+
 -- a search within a row of the place r that k has in it tells whether what stands at k repeats
 pub row-none : (s : List ℕ) (n k r : ℕ) {b : Bool} → r ≡ k % n → some (sameFrom (k - r) s k) r ≡ b → repeatsInRow n s k ≡ b
 unfolding repeatsInRow

@@ -3,12 +3,12 @@
 // them in a row, in 01's order. `list` is the list of the call that is judged.
 use answer::Answer;
 ghost use mathlib.Core.Path.{_≡_};
-ghost use Prim.Native.Nat.{ℕ, _*_, _%_, _≤_, _<_};
+ghost use Prim.Native.Nat.{ℕ, _*_, _%_, _≤_, _<_, min};
 ghost use lib.ListN.{length, getD};
-ghost use Rattle.answer.specs.First.{first};
+ghost use Rattle.answer.specs.First.{first, Scan};
 ghost use Rattle.answer.specs.Bits.{bitsAnswer};
 ghost use Rattle.instance.specs.Table.{sizesOf, rowBits, whiteBits};
-ghost use Rattle.instance.specs.Judging.{numbersAnswer, lengthAnswer, roomAnswer, pastKey, repeatsInRow, isOne, rowsAnswer, whiteAnswer};
+ghost use Rattle.instance.specs.Judging.{numbersAnswer, lengthAnswer, roomAnswer, pastKey, repeatsInRow, Distinct, isOne, rowsAnswer, whiteAnswer};
 
 // How many bits the key has, and how many indices a row.
 pub struct Sizes {
@@ -159,11 +159,71 @@ fn in_row(k: usize, n: usize) -> usize
     k % n
 }
 
-// The earliest place that holds an index seen before it in its row; the length where there is none.
-fn first_repeat(s: &[u32], n: usize) -> usize
-    ensures { λ r. ⌜ r ≡ first (repeatsInRow n (now (s .entry))) (length (now (s .entry))) ⌝ }
+// The mark of the next row; 0 marks none.
+fn next_mark(mark: u8) -> u8 {
+    if mark == 255 { 1 } else { mark + 1 }
+}
+
+// Marks the indices of a row as they pass, up to one that bears the mark already: those before it are distinct.
+fn mark_row(row: &[u32], mark: u8, seen: &mut [u8]) -> usize
+    requires { ⌜ ((k : ℕ) → k < length (now row) → getD (now row) k 0 < length (now seen)) ⌝ }
+    ensures { λ r. ⌜ Distinct (now (row .entry)) r ⌝ }
 {
     let mut k: usize = 0;
+    while k < row.len() {
+        let index = row[k] as usize;
+        if seen[index] == mark {
+            break;
+        }
+        seen[index] = mark;
+        k += 1;
+    }
+    k
+}
+
+fn smaller(a: usize, b: usize) -> usize
+    ensures { λ r. ⌜ r ≡ min a b ⌝ }
+{
+    if a <= b { a } else { b }
+}
+
+// Rows of n end to end, marked one after the other; the place where marking stopped, before which none repeats. A
+// mark of 255 rows ago may stop it early.
+fn mark_rows(s: &[u32], n: usize, seen: &mut [u8]) -> usize
+    requires { ⌜ (0 < n) × ((k : ℕ) → k < length (now s) → getD (now s) k 0 < length (now seen)) ⌝ }
+    ensures { λ r. ⌜ Scan (repeatsInRow n (now (s .entry))) (length (now (s .entry))) r ⌝ }
+{
+    let mut mark: u8 = 0;
+    let mut at: usize = 0;
+    while at < s.len() {
+        let size = smaller(n, s.len() - at);
+        let end = at + size;
+        mark = next_mark(mark);
+        let r = mark_row(&s[at..end], mark, seen);
+        if r < size {
+            return at + r;
+        }
+        at = end;
+    }
+    at
+}
+
+// The same, with room for the marks of the largest key.
+fn first_marked(s: &[u32], n: usize) -> usize
+    requires { ⌜ (0 < n) × ((k : ℕ) → k < length (now s) → getD (now s) k 0 < 16384) ⌝ }
+    ensures { λ r. ⌜ Scan (repeatsInRow n (now (s .entry))) (length (now (s .entry))) r ⌝ }
+{
+    let mut seen = [0u8; 16384];
+    mark_rows(s, n, &mut seen)
+}
+
+// The earliest place that holds an index seen before it in its row, where none does before place from; the length
+// where there is none.
+fn first_repeat(s: &[u32], n: usize, from: usize) -> usize
+    requires { ⌜ Scan (repeatsInRow n (now s)) (length (now s)) from ⌝ }
+    ensures { λ r. ⌜ r ≡ first (repeatsInRow n (now (s .entry))) (length (now (s .entry))) ⌝ }
+{
+    let mut k = from;
     'rows: while k < s.len() {
         let size = in_row(k, n);
         let start = k - size;
@@ -179,6 +239,21 @@ fn first_repeat(s: &[u32], n: usize) -> usize
     k
 }
 
+// The same for indices below the key's size: the search goes on where marking stopped, which is at the end unless an
+// index repeats.
+fn repeat_place(s: &[u32], key: usize, n: usize) -> usize
+    requires { ⌜ ((k : ℕ) → k < length (now s) → getD (now s) k 0 < key) ⌝ }
+    ensures { λ r. ⌜ r ≡ first (repeatsInRow n (now (s .entry))) (length (now (s .entry))) ⌝ }
+{
+    if n == 0 {
+        return first_repeat(s, n, 0);
+    }
+    if 16384 < key {
+        return first_repeat(s, n, 0);
+    }
+    first_repeat(s, n, first_marked(s, n))
+}
+
 // 5 and 6: the rows' indices are below the key's size and distinct in each row.
 pub fn rows(s: &[u32], key: usize, row: usize, list: u32) -> Answer
     ensures { λ r. ⌜ r ≡ rowsAnswer list key row (now (s .entry)) ⌝ }
@@ -192,7 +267,7 @@ pub fn rows(s: &[u32], key: usize, row: usize, list: u32) -> Answer
             place: past,
         };
     }
-    let repeat = first_repeat(s, row);
+    let repeat = repeat_place(s, key, row);
     if repeat < len {
         return Answer::Refused {
             number: answer::REPEAT,

@@ -1,8 +1,6 @@
 -- Kreyvium's deciphering in the netlist's order of sums, over any algebra: bits, depths, meter cells.
-use mathlib.Core.Bool.{Bool, true, false}
-use mathlib.Core.List.{List, [], _∷_, _++_, map}
+use mathlib.Core.List.{List, [], _∷_, map}
 use Prim.Native.Nat.{ℕ, zero, suc}
-use lib.Dec.{eqb}
 use Rattle.netlist.specs.Net.{Alg}
 use Rattle.kreyvium.specs.Kreyvium.{Registers, sA, sB, sC, k0, v0, moved, loaded}
 

@@ -1,0 +1,10 @@
+pub mod Counts
+pub mod Exps
+pub mod Products
+pub mod Filters
+pub mod Table
+pub mod Whitening
+pub mod OneBit
+pub mod Deciphers
+pub mod Claims
+pub mod Samples

@@ -1,14 +1,13 @@
 -- What a wire is to carry, as an expression over wires that are there already: its gates stand in the order in which
 -- document 01 names them, first operand, second operand, the gate over both.
-use Prim.Native.Nat.{ℕ, zero, suc, _+_, _-_, _*_, max}
+use Prim.Native.Nat.{ℕ, zero, suc, _+_, _-_}
 use mathlib.Core.Bool.{Bool, true, false}
 use lib.Dec.{leb, ltb}
 use mathlib.Core.List.{List, [], _∷_}
-use lib.ListN.{length, getD, take, drop}
+use lib.ListN.{getD, take, drop}
 use Rattle.netlist.specs.declared.gate.Gate.the-variants.{Xor, And}
 use Rattle.netlist.specs.Part.{Part, past, input, join}
 use Rattle.cells.specs.Cells.{thresholdPart}
-use Rattle.cells.specs.Loop.{pos}
 
 -- least d ws: at least d of the wires ws carry 1
 pub data Exp : Type 0 where
@@ -52,24 +51,6 @@ addAll S acc (d ∷ ds) ws = addAll S (sum acc (product (S d) (take d ws))) ds (
 unfoldable pub monomials : (ℕ → Split) → List ℕ → List ℕ → Exp
 monomials S [] ws = wire 0
 monomials S (d ∷ ds) ws = addAll S (product (S d) (take d ws)) ds (drop d ws)
-
--- what an expression makes of what its wires carry is in proofs/Exps.antt; what it costs:
-unfoldable pub muls : Exp → ℕ
-muls (wire w) = 0
-muls (sum a b) = muls a + muls b
-muls (times a b) = muls a + muls b + 1
-muls (least d ws) = (d + 1) * (length ws - d + 1) - 2 - pos (length ws - d)
-
-unfoldable pub deep : Exp → ℕ
-deep (wire w) = 0
-deep (sum a b) = max (deep a) (deep b)
-deep (times a b) = suc (max (deep a) (deep b))
-deep (least d ws) = length ws - 1
-
--- ANDs that follow each other
-unfoldable pub height : Split → ℕ
-height one = 0
-height (two a b) = suc (max (height a) (height b))
 
 abbrev pub both : Bool → Bool → Bool
 both true b = b

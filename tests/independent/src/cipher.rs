@@ -110,10 +110,10 @@ impl Answer {
     }
 }
 
-/// The lists that a cipher call reads; a record if it takes one.
+/// The lists that a call reads; a key and a record if it takes them.
 #[derive(Clone, Copy)]
 pub struct Lists<'a> {
-    pub key: &'a [u8],
+    pub key: Option<&'a [u8]>,
     pub record: Option<&'a [u8]>,
     pub indices: &'a [u32],
     pub whitening: &'a [u8],
@@ -125,17 +125,14 @@ impl Lists<'_> {
     const RECORD: u32 = 2;
 
     fn indices_list(&self) -> u32 {
-        match self.record {
-            None => 2,
-            Some(_) => 3,
-        }
+        1 + u32::from(self.key.is_some()) + u32::from(self.record.is_some())
     }
 
     fn whitening_list(&self) -> u32 {
         self.indices_list() + 1
     }
 
-    fn result_list(&self) -> u32 {
+    pub fn result_list(&self) -> u32 {
         self.indices_list() + 2
     }
 }
@@ -155,7 +152,7 @@ pub fn keystream(
     result: &mut [u8],
 ) -> Answer {
     let lists = Lists {
-        key,
+        key: Some(key),
         record: None,
         indices,
         whitening,
@@ -175,7 +172,7 @@ pub fn encipher(
     result: &mut [u8],
 ) -> Answer {
     let lists = Lists {
-        key,
+        key: Some(key),
         record: Some(record),
         indices,
         whitening,
@@ -198,21 +195,31 @@ pub fn decipher(
 
 /// Any of the three calls, with the search for repeated indices to use.
 pub fn run(instance: u32, m: u32, lists: &Lists, result: &mut [u8], search: Search) -> Answer {
-    match judge(instance, m, lists, result.len(), search) {
-        Ok(instance) => {
-            fill(instance, lists, &mut result[..m as usize]);
-            Answer::DONE
-        }
-        Err(answer) => answer,
-    }
+    try_run(instance, m, lists, result, search).into()
 }
 
-/// The instance, if nothing speaks against the call.
-fn judge(
+fn try_run(
     instance: u32,
     m: u32,
     lists: &Lists,
-    room: usize,
+    result: &mut [u8],
+    search: Search,
+) -> Result<(), Answer> {
+    let instance = judge(instance, m, lists, search)?;
+    let room = result.len();
+    let result = result
+        .get_mut(..m as usize)
+        .ok_or(Answer::too_short(lists.result_list(), room))?;
+    fill(instance, lists, result);
+    Ok(())
+}
+
+/// The instance, if nothing but the room for the result can speak against the
+/// call.
+pub fn judge(
+    instance: u32,
+    m: u32,
+    lists: &Lists,
     search: Search,
 ) -> Result<&'static Instance, Answer> {
     let instance = Instance::numbered(instance).ok_or(Answer::NO_INSTANCE)?;
@@ -229,7 +236,9 @@ fn judge(
         }
     };
     let (indices, whitening) = (lists.indices_list(), lists.whitening_list());
-    exactly(Lists::KEY, lists.key.len(), instance.key)?;
+    if let Some(key) = lists.key {
+        exactly(Lists::KEY, key.len(), instance.key)?;
+    }
     if let Some(record) = lists.record {
         exactly(Lists::RECORD, record.len(), m)?;
     }
@@ -240,7 +249,9 @@ fn judge(
         Some(place) => Err(Answer::not_a_bit(list, place)),
         None => Ok(()),
     };
-    bits(Lists::KEY, lists.key)?;
+    if let Some(key) = lists.key {
+        bits(Lists::KEY, key)?;
+    }
     if let Some(record) = lists.record {
         bits(Lists::RECORD, record)?;
     }
@@ -258,9 +269,6 @@ fn judge(
         if let Some(place) = first_above(lists.whitening, 0) {
             return Err(Answer::whitened(whitening, place));
         }
-    }
-    if room < m {
-        return Err(Answer::too_short(lists.result_list(), room));
     }
     Ok(instance)
 }
@@ -317,6 +325,7 @@ pub fn by_nested_loops(indices: &[u32], row: usize) -> Option<usize> {
 
 /// Writes the bits; the result is as long as the record.
 fn fill(instance: &Instance, lists: &Lists, result: &mut [u8]) {
+    let key = lists.key.expect("a cipher call takes one");
     match instance.cipher {
         Cipher::Flip(filter) | Cipher::Filip(filter) => {
             let mut buffer = [0; MAX_ROW];
@@ -324,12 +333,12 @@ fn fill(instance: &Instance, lists: &Lists, result: &mut [u8]) {
             let indices = lists.indices.chunks_exact(instance.row);
             let whitening = lists.whitening.chunks_exact(instance.row);
             for ((bit, indices), whitening) in result.iter_mut().zip(indices).zip(whitening) {
-                variables(lists.key, indices, whitening, x);
+                variables(key, indices, whitening, x);
                 *bit = filter(x);
             }
         }
         Cipher::Kreyvium => {
-            let key = lists.key.try_into().expect("its length is judged");
+            let key = key.try_into().expect("its length is judged");
             let iv = lists.whitening.try_into().expect("its length is judged");
             let bits = kreyvium::first_bits(key, iv);
             result.copy_from_slice(&bits[..result.len()]);

@@ -23,7 +23,7 @@ impl Call {
     /// What the call reads.
     pub fn lists(&self) -> Lists<'_> {
         Lists {
-            key: &self.key,
+            key: Some(&self.key),
             record: self.record.as_deref(),
             indices: &self.indices,
             whitening: &self.whitening,
@@ -203,7 +203,7 @@ impl Fault {
 
     /// How likely it is among several: what is judged later is more often
     /// passed over for another.
-    fn weight(self) -> u32 {
+    pub fn weight(self) -> u32 {
         match self {
             Fault::Instance | Fault::Bits => 2,
             Fault::Length(_) => 3,

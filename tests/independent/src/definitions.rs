@@ -1,15 +1,19 @@
-//! The filters, the judging and the choice once more, each as its definition
-//! puts it and with no care for speed. It shares no line with [`cipher`],
-//! [`filter`] and [`choice`], which have to agree with it.
+//! The filters, the judging, the choice and the emitted netlists once more,
+//! each as its definition puts it and with no care for speed. It shares no line
+//! with [`cipher`], [`filter`], [`choice`] and [`emission`], which have to agree
+//! with it.
 //!
 //! [`cipher`]: crate::cipher
 //! [`filter`]: crate::filter
 //! [`choice`]: crate::choice
+//! [`emission`]: crate::emission
 
 #![forbid(unsafe_code)]
 
 use crate::kreyvium;
-use std::collections::{BTreeSet, HashSet};
+use crate::netlist::{AND, ARITY, MUX, NOT, ONE, XOR, ZERO};
+use std::collections::{BTreeSet, HashMap, HashSet};
+use std::ops::Range;
 
 // ---- filters, from their formulas ----
 
@@ -299,4 +303,338 @@ pub fn choice(key_bits: usize, draws: &[u32]) -> Vec<u32> {
     }
     places.truncate(draws.len());
     places
+}
+
+/// All that holds against the emission of a deciphering netlist with that many
+/// words of room. Where something else holds, room that is not enough for the
+/// smallest such netlist is too little too.
+pub fn emission_conditions(
+    instance: u32,
+    m: u32,
+    indices: &[u32],
+    whitening: &[u8],
+    room: usize,
+) -> BTreeSet<Condition> {
+    // As keystream is judged, with any key, and without the key's list.
+    let key = vec![0; sizes(instance).map_or(0, |(key_bits, _)| key_bits)];
+    let held = conditions(instance, m, &key, None, indices, whitening, m as usize);
+    let mut held: BTreeSet<Condition> = held
+        .into_iter()
+        .map(|(number, list, place)| (number, list.saturating_sub(1), place))
+        .collect();
+    if !held.contains(&(1, 0, 0)) && !held.contains(&(2, 0, 0)) {
+        let whitened = match held.is_empty() {
+            true => whitening.iter().filter(|&&white| white == 1).count(),
+            false => 0,
+        };
+        if room < deciphering_words(instance, m as usize, whitened) {
+            held.insert((8, 3, room));
+        }
+    }
+    held
+}
+
+// ---- emission ----
+
+/// A netlist as it comes to be.
+struct Draft {
+    inputs: usize,
+    gates: Vec<[u32; 4]>,
+}
+
+impl Draft {
+    fn new(inputs: usize) -> Self {
+        Draft {
+            inputs,
+            gates: Vec::new(),
+        }
+    }
+
+    /// One more gate; its wire.
+    fn gate(&mut self, kind: u32, operands: &[usize]) -> usize {
+        assert_eq!(operands.len(), ARITY[kind as usize]);
+        let wire = self.inputs + self.gates.len();
+        let mut gate = [kind, 0, 0, 0];
+        for (word, &operand) in gate[1..].iter_mut().zip(operands) {
+            assert!(operand < wire);
+            *word = operand as u32;
+        }
+        self.gates.push(gate);
+        wire
+    }
+
+    /// The first wire, and after each other one the XOR of the sum so far and
+    /// that wire; what `wire` gives may need gates of its own.
+    fn sum<T>(&mut self, terms: &[T], wire: impl Fn(&mut Self, &T) -> usize) -> usize {
+        let mut sum = wire(self, &terms[0]);
+        for term in &terms[1..] {
+            let term = wire(self, term);
+            sum = self.gate(XOR, &[sum, term]);
+        }
+        sum
+    }
+
+    fn words(self, outputs: &[usize]) -> Vec<u32> {
+        let counts = [self.inputs, self.gates.len(), outputs.len()];
+        let mut words = counts.map(|count| count as u32).to_vec();
+        words.extend(self.gates.into_iter().flatten());
+        words.extend(outputs.iter().map(|&wire| wire as u32));
+        words
+    }
+}
+
+/// The cells of a one-hot or a threshold netlist on the wires x(1), x(2), ..,
+/// by level and place.
+struct Cells<'a> {
+    x: &'a [usize],
+    wires: HashMap<(usize, usize), usize>,
+}
+
+impl<'a> Cells<'a> {
+    fn on(x: &'a [usize]) -> Self {
+        Cells {
+            x,
+            wires: HashMap::new(),
+        }
+    }
+
+    fn x(&self, i: usize) -> usize {
+        self.x[i - 1]
+    }
+
+    fn cell(&self, i: usize, j: usize) -> usize {
+        self.wires[&(i, j)]
+    }
+
+    /// The cells of level i that are kept.
+    fn level(&mut self, draft: &mut Draft, i: usize, kept: impl Fn(usize) -> bool) {
+        for j in 0..=i {
+            if !kept(j) {
+                continue;
+            }
+            let wire = match (i, j) {
+                (1, 0) => draft.gate(NOT, &[self.x(1)]),
+                (1, _) => self.x(1),
+                (_, 0) => {
+                    let not = draft.gate(NOT, &[self.x(i)]);
+                    draft.gate(AND, &[self.cell(i - 1, 0), not])
+                }
+                _ if j < i => draft.gate(
+                    MUX,
+                    &[self.x(i), self.cell(i - 1, j), self.cell(i - 1, j - 1)],
+                ),
+                _ => draft.gate(AND, &[self.cell(i - 1, i - 1), self.x(i)]),
+            };
+            self.wires.insert((i, j), wire);
+        }
+    }
+}
+
+/// The words of the one-hot netlist of n inputs.
+pub fn one_hot_netlist(n: usize) -> Vec<u32> {
+    let mut draft = Draft::new(n);
+    if n == 0 {
+        let one = draft.gate(ONE, &[]);
+        return draft.words(&[one]);
+    }
+    let x: Vec<usize> = (0..n).collect();
+    let mut cells = Cells::on(&x);
+    for i in 1..=n {
+        cells.level(&mut draft, i, |_| true);
+    }
+    let outputs: Vec<usize> = (0..=n).map(|j| cells.cell(n, j)).collect();
+    draft.words(&outputs)
+}
+
+/// The gates of threshold d of the wires x; its wire.
+fn draft_threshold(draft: &mut Draft, d: usize, x: &[usize]) -> usize {
+    let n = x.len();
+    if d == n + 1 {
+        return draft.gate(ZERO, &[]);
+    }
+    let mut cells = Cells::on(x);
+    let mut sums = Vec::new();
+    for i in 1..=n {
+        // d - n + i may be below 0.
+        cells.level(draft, i, |j| d + i <= j + n && j <= i.min(d - 1));
+        if i == d {
+            sums.push(match d {
+                1 => cells.x(1),
+                _ => draft.gate(AND, &[cells.cell(d - 1, d - 1), cells.x(d)]),
+            });
+        }
+        if i > d {
+            let and = draft.gate(AND, &[cells.cell(i - 1, d - 1), cells.x(i)]);
+            sums.push(draft.gate(XOR, &[and, sums[sums.len() - 1]]));
+        }
+    }
+    sums[sums.len() - 1]
+}
+
+/// The words of the netlist of threshold d of n inputs.
+pub fn threshold_netlist(d: usize, n: usize) -> Vec<u32> {
+    let mut draft = Draft::new(n);
+    let x: Vec<usize> = (0..n).collect();
+    let output = draft_threshold(&mut draft, d, &x);
+    draft.words(&[output])
+}
+
+/// The variables of each monomial of instances 1 to 4, from the formulas.
+pub fn monomials(instance: u32) -> Vec<Range<usize>> {
+    let flip = |n1: usize, n2: usize, k: usize| {
+        let mut monomials: Vec<Range<usize>> = (0..n1).map(|i| i..i + 1).collect();
+        monomials.extend((0..n2 / 2).map(|i| n1 + 2 * i..n1 + 2 * i + 2));
+        for triangle in 0..8 {
+            let begin = n1 + n2 + triangle * (k * (k + 1) / 2);
+            monomials.extend((1..=k).map(|i| {
+                let first = begin + i * (i - 1) / 2;
+                first..first + i
+            }));
+        }
+        monomials
+    };
+    let direct_sum = |vector: &[usize]| {
+        let mut monomials = Vec::new();
+        for i in 1..=vector.len() {
+            let lower: usize = (1..i).map(|degree| degree * vector[degree - 1]).sum();
+            monomials.extend((0..vector[i - 1]).map(|g| lower + g * i..lower + (g + 1) * i));
+        }
+        monomials
+    };
+    match instance {
+        1 => flip(42, 128, 9),
+        2 => flip(82, 224, 16),
+        3 => direct_sum(&[128, 64, 0, 80, 0, 0, 0, 80]),
+        4 => direct_sum(&[128, 64, 0, 0, 0, 0, 0, 0, 0, 0, 0, 0, 0, 0, 0, 64]),
+        _ => panic!("instance {instance} is no sum of monomials"),
+    }
+}
+
+/// The gates of a filter of instances 1 to 5 on the wires x; its wire.
+fn draft_filter(draft: &mut Draft, instance: u32, x: &[usize]) -> usize {
+    if instance == 5 {
+        let chain = draft.sum(&x[..81], |_, &wire| wire);
+        let threshold = draft_threshold(draft, 32, &x[81..]);
+        return draft.gate(XOR, &[chain, threshold]);
+    }
+    draft.sum(&monomials(instance), |draft, monomial| {
+        let wires = &x[monomial.clone()];
+        let mut product = wires[0];
+        for &wire in &wires[1..] {
+            product = draft.gate(AND, &[product, wire]);
+        }
+        product
+    })
+}
+
+/// The rounds of Kreyvium, every register as it stands in the rules; the
+/// output wires.
+fn draft_kreyvium(draft: &mut Draft, m: usize, iv: &[u8]) -> Vec<usize> {
+    let zero = draft.gate(ZERO, &[]);
+    let one = draft.gate(ONE, &[]);
+    let mut key: Vec<usize> = (0..128).collect();
+    let mut iv: Vec<usize> = iv
+        .iter()
+        .map(|&bit| if bit == 1 { one } else { zero })
+        .collect();
+    // s[0] is not used.
+    let mut s = vec![0];
+    s.extend(&key[..93]);
+    s.extend(&iv);
+    s.extend([one; 66]);
+    s.push(zero);
+    assert_eq!(s.len(), 289);
+    key.reverse();
+    iv.reverse();
+    let mut outputs = Vec::new();
+    for round in 1..=1_152 + m {
+        let mut t1 = draft.gate(XOR, &[s[66], s[93]]);
+        let mut t2 = draft.gate(XOR, &[s[162], s[177]]);
+        let mut t3 = draft.gate(XOR, &[s[243], s[288]]);
+        t3 = draft.gate(XOR, &[t3, key[0]]);
+        if round >= 1_153 {
+            let record = 128 + round - 1_153;
+            let sum = draft.gate(XOR, &[t1, t2]);
+            let sum = draft.gate(XOR, &[sum, t3]);
+            outputs.push(draft.gate(XOR, &[sum, record]));
+        }
+        for (t, product, others) in [
+            (&mut t1, [s[91], s[92]], &[s[171], iv[0]][..]),
+            (&mut t2, [s[175], s[176]], &[s[264]]),
+            (&mut t3, [s[286], s[287]], &[s[69]]),
+        ] {
+            let product = draft.gate(AND, &product);
+            *t = draft.gate(XOR, &[*t, product]);
+            for &other in others {
+                *t = draft.gate(XOR, &[*t, other]);
+            }
+        }
+        s.remove(288);
+        s.insert(1, t3);
+        s[94] = t1;
+        s[178] = t2;
+        key.rotate_left(1);
+        iv.rotate_left(1);
+    }
+    outputs
+}
+
+/// The words of the netlist that deciphers m bits, of lists against which
+/// nothing speaks.
+pub fn deciphering_netlist(instance: u32, m: usize, indices: &[u32], whitening: &[u8]) -> Vec<u32> {
+    let (key_bits, row) = sizes(instance).expect("an instance");
+    let mut draft = Draft::new(key_bits + m);
+    if instance == 6 {
+        let outputs = draft_kreyvium(&mut draft, m, whitening);
+        return draft.words(&outputs);
+    }
+    let mut outputs = Vec::new();
+    for bit in 0..m {
+        let mut x: Vec<usize> = (0..row).map(|j| indices[bit * row + j] as usize).collect();
+        for (j, wire) in x.iter_mut().enumerate() {
+            if whitening[bit * row + j] == 1 {
+                *wire = draft.gate(NOT, &[*wire]);
+            }
+        }
+        let filter = draft_filter(&mut draft, instance, &x);
+        outputs.push(draft.gate(XOR, &[filter, key_bits + bit]));
+    }
+    draft.words(&outputs)
+}
+
+/// Multiplications and depth of the deciphering of m bits. For Kreyvium the
+/// depth is the bound for the last bit.
+pub fn deciphering_costs(instance: u32, m: usize) -> (usize, usize) {
+    let (multiplications, depth) = match instance {
+        1 => (352, 8),
+        2 => (1_072, 15),
+        3 => (864, 7),
+        4 => (1_024, 15),
+        5 => (1_053, 62),
+        _ => return (3 * (1_152 + m), (1_087 + m - 1).div_ceil(82)),
+    };
+    (m * multiplications, depth)
+}
+
+/// The words of a deciphering netlist of m bits, of which that many are
+/// whitened.
+pub fn deciphering_words(instance: u32, m: usize, whitened: usize) -> usize {
+    let (multiplications, _) = deciphering_costs(instance, m);
+    let gates = match instance {
+        1..=4 => multiplications + m * monomials(instance).len() + whitened,
+        // The sum of 81, the threshold's 31 NOTs and 31 XORs, that of both, and
+        // the record bit.
+        5 => multiplications + m * (80 + 31 + 31 + 1 + 1) + whitened,
+        _ => 2 + 14 * (1_152 + m) + 3 * m,
+    };
+    3 + 4 * gates + m
+}
+
+/// Multiplications and depth of threshold d of n.
+pub fn threshold_costs(d: usize, n: usize) -> (usize, usize) {
+    if d == n + 1 {
+        return (0, 0);
+    }
+    let fewer = usize::from(d < n);
+    ((d + 1) * (n - d + 1) - 2 - fewer, n - 1)
 }

@@ -42,6 +42,12 @@ impl<T: Arbitrary + Debug + PartialEq> Lent<T> {
         &mut self.rust[range]
     }
 
+    /// The library's copy and that of the Rust program.
+    pub fn each(&mut self) -> (&mut [T], &mut [T]) {
+        let range = self.between();
+        (&mut self.library[range.clone()], &mut self.rust[range])
+    }
+
     /// Both copies are alike, and as before but for the first `written`.
     pub fn settle(self, written: usize, what: &str, case: &dyn Fn() -> String) -> Vec<T> {
         let library = black_box(&self.library);

@@ -13,11 +13,14 @@
 //! The tests hand both programs the same lists and compare the whole answer
 //! and every lent list; the program `bench` times both on the same lists.
 
+pub mod both;
 pub mod cases;
 pub mod choice;
 pub mod cipher;
 pub mod cipher_cases;
 pub mod definitions;
+pub mod emission;
+pub mod emission_cases;
 pub mod filter;
 pub mod kreyvium;
 pub mod lent;

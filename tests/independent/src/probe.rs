@@ -109,6 +109,21 @@ extern "C" {
         row: *mut u32,
         row_length: usize,
     ) -> RawReply;
+
+    fn probe_emit_one_hot(n: u32, result: *mut u32, result_length: usize) -> RawReply;
+
+    fn probe_emit_threshold(d: u32, n: u32, result: *mut u32, result_length: usize) -> RawReply;
+
+    fn probe_emit_decipher(
+        instance: u32,
+        m: u32,
+        indices: *const u32,
+        indices_length: usize,
+        whitening: *const u8,
+        whitening_length: usize,
+        result: *mut u32,
+        result_length: usize,
+    ) -> RawReply;
 }
 
 impl From<RawReply> for Answer {
@@ -281,6 +296,39 @@ pub fn choose(instance: u32, draws: &[u32], row: &mut [u32]) -> Answer {
             draws.len(),
             row.as_mut_ptr(),
             row.len(),
+        )
+    }
+    .into()
+}
+
+pub fn emit_one_hot(n: u32, result: &mut [u32]) -> Answer {
+    // SAFETY: as in `check`.
+    unsafe { probe_emit_one_hot(n, result.as_mut_ptr(), result.len()) }.into()
+}
+
+pub fn emit_threshold(d: u32, n: u32, result: &mut [u32]) -> Answer {
+    // SAFETY: as in `check`.
+    unsafe { probe_emit_threshold(d, n, result.as_mut_ptr(), result.len()) }.into()
+}
+
+pub fn emit_decipher(
+    instance: u32,
+    m: u32,
+    indices: &[u32],
+    whitening: &[u8],
+    result: &mut [u32],
+) -> Answer {
+    // SAFETY: as in `check`.
+    unsafe {
+        probe_emit_decipher(
+            instance,
+            m,
+            indices.as_ptr(),
+            indices.len(),
+            whitening.as_ptr(),
+            whitening.len(),
+            result.as_mut_ptr(),
+            result.len(),
         )
     }
     .into()

@@ -3,8 +3,8 @@ use mathlib.Core.Path.{_≡_, _∙_}
 use native.Mathlib.Omega.{arith}
 use lib.ListN.{length, take}
 use denote.Ref.{now}
+use Rattle.answer.specs.Bits.{added}
 use Rattle.answer.specs.Fronts.{over}
-use Rattle.cipher.specs.Cipher.{added}
 use Rattle.cipher.proofs.Sums.{sums-none, sums-next, sums-all}
 use borrow.Author.Needs.{needs}
 use Rattle.cipher.proofs.add.Statement.{statement}

@@ -1,10 +1,13 @@
 //! Times the library and the Rust program on the same lists and prints
-//! nanoseconds and their ratio: for a gate of the netlist calls, and for a
-//! cipher call or a choice. It only reports: the exit status is always 0.
+//! nanoseconds and their ratio: for a gate of the netlist calls, for a cipher
+//! call or a choice, and for an emission or the whole path of a record to its
+//! score. It only reports: the exit status is always 0.
 
 use independent::cases::{self, Shape};
 use independent::cipher::{self, Search, INSTANCES};
 use independent::cipher_cases::{self, Call};
+use independent::emission;
+use independent::emission_cases::{self, Emission};
 use independent::netlist::{self, Answer, Metering, HEADER};
 use independent::random::{bits, Random};
 use independent::{choice, kreyvium, probe};
@@ -349,6 +352,31 @@ impl Table {
             });
         }
     }
+
+    fn print(&self) {
+        println!();
+        println!(
+            "call      instance    in Rust                       library         rust    ratio"
+        );
+        for line in &self.lines {
+            println!(
+                "{:<9} {:<11} {:<24} {:>12.0} {:>12.0} {:>8.2}",
+                line.call,
+                line.instance,
+                line.way,
+                line.library,
+                line.rust,
+                line.library / line.rust
+            );
+        }
+        if self.failed > 0 {
+            println!();
+            println!(
+                "{} calls answered otherwise: the figures above mean nothing",
+                self.failed
+            );
+        }
+    }
 }
 
 fn by_library(call: &Call, result: &mut [u8]) -> Answer {
@@ -465,26 +493,186 @@ fn ciphers(random: &mut Random) {
     }
 
     println!("nanoseconds for a call, records of {BITS} bits, median of {CALL_SAMPLES} samples");
-    println!();
-    println!("call      instance    in Rust                       library         rust    ratio");
-    for line in &table.lines {
-        println!(
-            "{:<9} {:<11} {:<24} {:>12.0} {:>12.0} {:>8.2}",
-            line.call,
-            line.instance,
-            line.way,
-            line.library,
-            line.rust,
-            line.library / line.rust
-        );
+    table.print();
+}
+
+// ---- emission and scores ----
+
+/// The gates of a scoring netlist.
+const SCORING_GATES: usize = 4_096;
+
+fn emit_by_library(emission: &Emission, result: &mut [u32]) -> Answer {
+    let call = &black_box(emission).call;
+    probe::emit_decipher(
+        call.instance,
+        call.m,
+        &call.indices,
+        &call.whitening,
+        black_box(result),
+    )
+}
+
+fn emit_by_rust(emission: &Emission, result: &mut [u32], search: Search) -> Answer {
+    let call = &black_box(emission).call;
+    emission::decipher_with(
+        call.instance,
+        call.m,
+        &call.indices,
+        &call.whitening,
+        black_box(result),
+        search,
+    )
+}
+
+/// An emission to time: half of FiLIP's whitening and of an IV is 1.
+fn timed_emission(random: &mut Random, instance: u32) -> Emission {
+    let mut emission = emission_cases::sound(random, instance, BITS);
+    if instance > 2 {
+        let length = emission.call.whitening.len();
+        emission.call.whitening = bits(random, length);
     }
-    if table.failed > 0 {
-        println!();
-        println!(
-            "{} calls answered otherwise: the figures above mean nothing",
-            table.failed
-        );
+    emission.result = vec![0; emission.words()];
+    emission
+}
+
+fn emit(random: &mut Random, instance: u32, table: &mut Table) {
+    let emission = timed_emission(random, instance);
+    let mut rooms = [(); 3].map(|()| emission.result.clone());
+    let [library, rust, nested] = &mut rooms;
+    let by_library = &mut || emit_by_library(&emission, library);
+    let by_marks = &mut || emit_by_rust(&emission, rust, cipher::by_marks);
+    let by_nested_loops = &mut || emit_by_rust(&emission, nested, cipher::by_nested_loops);
+    let ways: &mut [(_, &mut dyn FnMut() -> Answer)] = match instance {
+        6 => &mut [("no rows", by_marks)],
+        _ => &mut [
+            ("repeats by marks", by_marks),
+            ("repeats by nested loops", by_nested_loops),
+        ],
+    };
+    table.compare("emit", instance, Answer::DONE, by_library, ways);
+    table.failed += usize::from(rooms[0] != rooms[1]);
+}
+
+/// The lists of one program on a record's path.
+#[derive(Clone)]
+struct Path {
+    enciphered: Vec<u8>,
+    deciphering: Vec<u32>,
+    glued: Vec<u32>,
+    inputs: Vec<u8>,
+    values: Vec<u8>,
+    score: Vec<u8>,
+}
+
+impl Path {
+    fn new(emission: &Emission, scoring: &[u32]) -> Self {
+        let words = emission.words();
+        let gates = (words - HEADER - BITS) / 4 + scoring[1] as usize;
+        let inputs = emission.call.key.len() + BITS;
+        Path {
+            enciphered: vec![0; BITS],
+            deciphering: vec![0; words],
+            glued: vec![0; HEADER + 4 * gates + scoring[2] as usize],
+            inputs: vec![0; inputs],
+            values: vec![0; inputs + gates],
+            score: vec![0; scoring[2] as usize],
+        }
     }
+
+    /// Enciphers and emits, each by the given call; then glues the scoring
+    /// netlist behind what was emitted and evaluates it on the key and the
+    /// enciphered record. The answer is the first that is a refusal.
+    fn walk(
+        &mut self,
+        program: &Program,
+        key: &[u8],
+        scoring: &[u32],
+        encipher: impl FnOnce(&mut [u8]) -> Answer,
+        emit: impl FnOnce(&mut [u32]) -> Answer,
+    ) -> Answer {
+        let answers = [
+            encipher(&mut self.enciphered),
+            emit(&mut self.deciphering),
+            (program.glue)(&self.deciphering, black_box(scoring), &mut self.glued),
+            {
+                let (of_key, of_record) = self.inputs.split_at_mut(key.len());
+                of_key.copy_from_slice(key);
+                of_record.copy_from_slice(&self.enciphered);
+                (program.evaluate)(
+                    &self.glued,
+                    &self.inputs,
+                    &mut self.values,
+                    black_box(&mut self.score),
+                )
+            },
+        ];
+        let refused = answers.into_iter().find(|&answer| answer != Answer::DONE);
+        refused.unwrap_or(Answer::DONE)
+    }
+}
+
+fn score(random: &mut Random, instance: u32, table: &mut Table) {
+    let emission = timed_emission(random, instance);
+    let scoring = cases::sound(
+        random,
+        &Shape {
+            inputs: BITS,
+            gates: SCORING_GATES,
+            outputs: 8,
+            weights: cases::ARITHMETIC,
+            reach: 64,
+        },
+    );
+    let call = &emission.call;
+    let mut paths = [(); 3].map(|()| Path::new(&emission, &scoring));
+    let [library, rust, nested] = &mut paths;
+    let walk_library = &mut || {
+        library.walk(
+            &LIBRARY,
+            &call.key,
+            &scoring,
+            |result| by_library(call, result),
+            |result| emit_by_library(&emission, result),
+        )
+    };
+    let walk_rust = |path: &mut Path, search| {
+        path.walk(
+            &RUST,
+            &call.key,
+            &scoring,
+            |result| by_rust(call, result, search),
+            |result| emit_by_rust(&emission, result, search),
+        )
+    };
+    let by_marks = &mut || walk_rust(rust, cipher::by_marks);
+    let by_nested_loops = &mut || walk_rust(nested, cipher::by_nested_loops);
+    let ways: &mut [(_, &mut dyn FnMut() -> Answer)] = match instance {
+        6 => &mut [("no rows", by_marks)],
+        _ => &mut [
+            ("repeats by marks", by_marks),
+            ("repeats by nested loops", by_nested_loops),
+        ],
+    };
+    table.compare("score", instance, Answer::DONE, walk_library, ways);
+    let [library, rust, _] = paths;
+    table.failed += usize::from(library.score != rust.score);
+}
+
+fn emissions(random: &mut Random) {
+    let mut table = Table::default();
+    for instance in 1..=6 {
+        emit(random, instance, &mut table);
+    }
+    for instance in 1..=6 {
+        score(random, instance, &mut table);
+    }
+
+    println!(
+        "nanoseconds to emit a deciphering netlist, and from a record to its score: encipher, \
+         emit, glue a netlist of {SCORING_GATES} gates, evaluate; records of {BITS} bits, \
+         median of {CALL_SAMPLES} samples"
+    );
+    table.print();
 }
 
 fn main() {
@@ -492,4 +680,6 @@ fn main() {
     netlists(&mut random);
     println!();
     ciphers(&mut random);
+    println!();
+    emissions(&mut random);
 }

@@ -1,0 +1,174 @@
+//! The netlist calls handed to both programs: each has the same lists, and the
+//! whole answer and every lent list are compared.
+
+use crate::lent::{show, Lent};
+use crate::netlist::{self, Answer, Metering, HEADER};
+use crate::probe;
+
+/// What an evaluation left behind; the other calls alike.
+pub struct Evaluated {
+    pub answer: Answer,
+    pub values: Vec<u8>,
+    pub outputs: Vec<u8>,
+}
+
+pub struct Metered {
+    pub metering: Metering,
+    pub depths: Vec<u32>,
+    pub ands: Vec<u32>,
+    pub muxes: Vec<u32>,
+}
+
+pub struct Glued {
+    pub answer: Answer,
+    pub out: Vec<u32>,
+}
+
+pub fn check(net: &[u32]) -> Answer {
+    let case = || format!("check of {}", show(net));
+    let mut lent = Lent::new(net);
+    let library = probe::check(lent.library());
+    let rust = netlist::check(lent.rust());
+    assert_eq!(library, rust, "library, rust; {}", case());
+    lent.settle(0, "words", &case);
+    rust
+}
+
+pub fn evaluate(net: &[u32], inputs: &[u8], values: &[u8], outputs: &[u8]) -> Evaluated {
+    let case = || {
+        format!(
+            "evaluation of {} on {}, {} values, {} outputs",
+            show(net),
+            show(inputs),
+            values.len(),
+            outputs.len()
+        )
+    };
+    let (mut net_lent, mut inputs_lent) = (Lent::new(net), Lent::new(inputs));
+    let (mut values, mut outputs) = (Lent::new(values), Lent::new(outputs));
+    let library = probe::evaluate(
+        net_lent.library(),
+        inputs_lent.library(),
+        values.library(),
+        outputs.library(),
+    );
+    let rust = netlist::evaluate(
+        net_lent.rust(),
+        inputs_lent.rust(),
+        values.rust(),
+        outputs.rust(),
+    );
+    assert_eq!(library, rust, "library, rust; {}", case());
+    let (wires, outs) = if rust == Answer::DONE {
+        ((net[0] + net[1]) as usize, net[2] as usize)
+    } else {
+        (0, 0)
+    };
+    net_lent.settle(0, "words", &case);
+    inputs_lent.settle(0, "inputs", &case);
+    Evaluated {
+        answer: rust,
+        values: values.settle(wires, "values", &case),
+        outputs: outputs.settle(outs, "outputs", &case),
+    }
+}
+
+pub fn meter(net: &[u32], depths: &[u32], ands: &[u32], muxes: &[u32]) -> Metered {
+    let case = || {
+        format!(
+            "metering of {}, {} depths, {} levels of AND, {} of MUX",
+            show(net),
+            depths.len(),
+            ands.len(),
+            muxes.len()
+        )
+    };
+    let mut net_lent = Lent::new(net);
+    let (mut depths, mut ands, mut muxes) = (Lent::new(depths), Lent::new(ands), Lent::new(muxes));
+    let library = probe::meter(
+        net_lent.library(),
+        depths.library(),
+        ands.library(),
+        muxes.library(),
+    );
+    let rust = netlist::meter(net_lent.rust(), depths.rust(), ands.rust(), muxes.rust());
+    assert_eq!(library, rust, "library, rust; {}", case());
+    let done = rust.answer == Answer::DONE;
+    if !done {
+        assert_eq!((rust.depth, rust.multiplications), (0, 0), "{}", case());
+    }
+    // The one list that a refusal may fill.
+    let wires = if done || (rust.answer.number, rust.answer.list) == (8, 3) {
+        (net[0] + net[1]) as usize
+    } else {
+        0
+    };
+    net_lent.settle(0, "words", &case);
+    let depths = depths.settle(wires, "depths", &case);
+    let levels = if done {
+        1 + depths[net[0] as usize..wires].iter().max().unwrap_or(&0)
+    } else {
+        0
+    };
+    Metered {
+        metering: rust,
+        depths,
+        ands: ands.settle(levels as usize, "AND levels", &case),
+        muxes: muxes.settle(levels as usize, "MUX levels", &case),
+    }
+}
+
+pub fn glue(first: &[u32], second: &[u32], out: &[u32]) -> Glued {
+    let case = || {
+        format!(
+            "gluing of {} and {}, {} words of room",
+            show(first),
+            show(second),
+            out.len()
+        )
+    };
+    let (mut first_lent, mut second_lent) = (Lent::new(first), Lent::new(second));
+    let mut out = Lent::new(out);
+    let library = probe::glue(first_lent.library(), second_lent.library(), out.library());
+    let rust = netlist::glue(first_lent.rust(), second_lent.rust(), out.rust());
+    assert_eq!(library, rust, "library, rust; {}", case());
+    first_lent.settle(0, "first words", &case);
+    second_lent.settle(0, "second words", &case);
+    let written = if rust == Answer::DONE {
+        glued_length(first, second)
+    } else {
+        0
+    };
+    Glued {
+        answer: rust,
+        out: out.settle(written, "result", &case),
+    }
+}
+
+pub fn glued_length(first: &[u32], second: &[u32]) -> usize {
+    HEADER + 4 * (first[1] as usize + second[1] as usize) + second[2] as usize
+}
+
+/// The glued netlist, where there is one.
+pub fn glued(first: &[u32], second: &[u32]) -> Vec<u32> {
+    let result = glue(first, second, &vec![7; glued_length(first, second)]);
+    assert_eq!(result.answer, Answer::DONE);
+    result.out
+}
+
+/// The outputs on those inputs.
+pub fn run(net: &[u32], inputs: &[u8]) -> Vec<u8> {
+    let wires = (net[0] + net[1]) as usize;
+    let result = evaluate(net, inputs, &vec![9; wires], &vec![9; net[2] as usize]);
+    assert_eq!(result.answer, Answer::DONE);
+    result.outputs
+}
+
+/// Metering with room for whatever depth.
+pub fn metered(net: &[u32]) -> Metering {
+    let levels = vec![3; net[1] as usize + 1];
+    let depths = vec![3; (net[0] + net[1]) as usize];
+    let metering = meter(net, &depths, &levels, &levels).metering;
+    assert_eq!(metering.answer, Answer::DONE);
+    metering
+}

@@ -1,0 +1,448 @@
+//! Emission of one-hot, threshold and deciphering netlists.
+//!
+//! The gates of a netlist are counted first; then it is written straight into
+//! the lent list.
+
+#![forbid(unsafe_code)]
+
+use crate::cipher::{self, by_marks, Cipher, Lists, Search, MAX_BITS, MAX_ROW};
+use crate::kreyvium::{self, SILENT};
+use crate::netlist::{Answer, AND, HEADER, MUX, NOT, ONE, XOR, ZERO};
+use std::slice;
+
+/// The most inputs of a one-hot and of a threshold netlist.
+pub const MAX_COUNTED: usize = 64;
+
+impl Answer {
+    /// There is no such one-hot or threshold netlist.
+    pub const NO_NETLIST: Answer = Answer::new(13, 0, 0);
+}
+
+/// The gates of a netlist, as they are written one after another.
+struct Gates<'a> {
+    places: slice::IterMut<'a, [u32; 4]>,
+    /// The wire of the next gate.
+    wire: u32,
+}
+
+impl Gates<'_> {
+    #[inline]
+    fn put(&mut self, gate: [u32; 4]) -> u32 {
+        *self.places.next().expect("the gates are counted") = gate;
+        let wire = self.wire;
+        self.wire += 1;
+        wire
+    }
+
+    #[inline]
+    fn not(&mut self, a: u32) -> u32 {
+        self.put([NOT, a, 0, 0])
+    }
+
+    #[inline]
+    fn xor(&mut self, a: u32, b: u32) -> u32 {
+        self.put([XOR, a, b, 0])
+    }
+
+    #[inline]
+    fn and(&mut self, a: u32, b: u32) -> u32 {
+        self.put([AND, a, b, 0])
+    }
+
+    /// b if a is 0, c if a is 1.
+    #[inline]
+    fn mux(&mut self, a: u32, b: u32, c: u32) -> u32 {
+        self.put([MUX, a, b, c])
+    }
+}
+
+/// How many inputs, gates and outputs a netlist has.
+struct Counts {
+    inputs: usize,
+    gates: usize,
+    outputs: usize,
+}
+
+impl Counts {
+    /// Writes such a netlist to the front of `result`, the list so numbered:
+    /// `write` writes the gates and the outputs.
+    fn emit(
+        &self,
+        list: u32,
+        result: &mut [u32],
+        write: impl FnOnce(&mut Gates, &mut [u32]),
+    ) -> Result<(), Answer> {
+        let room = result.len();
+        let result = result
+            .get_mut(..HEADER + 4 * self.gates + self.outputs)
+            .ok_or(Answer::too_short(list, room))?;
+        let (counts, body) = result.split_at_mut(HEADER);
+        let (gate_words, outputs) = body.split_at_mut(4 * self.gates);
+        let (places, _) = gate_words.as_chunks_mut::<4>();
+        counts[0] = self.inputs as u32;
+        counts[1] = self.gates as u32;
+        counts[2] = self.outputs as u32;
+        let mut gates = Gates {
+            places: places.iter_mut(),
+            wire: self.inputs as u32,
+        };
+        write(&mut gates, outputs);
+        assert_eq!(gates.places.len(), 0, "the gates are counted");
+        Ok(())
+    }
+}
+
+// ---- one-hot ----
+
+/// Writes the one-hot netlist of `n` inputs to the front of `result` (list 1).
+pub fn one_hot(n: u32, result: &mut [u32]) -> Answer {
+    try_one_hot(n as usize, result).into()
+}
+
+fn try_one_hot(n: usize, result: &mut [u32]) -> Result<(), Answer> {
+    if n > MAX_COUNTED {
+        return Err(Answer::NO_NETLIST);
+    }
+    let counts = Counts {
+        inputs: n,
+        gates: match n {
+            0 => 1,
+            // i + 2 at each level i but the first.
+            _ => n * (n + 1) / 2 + 2 * (n - 1),
+        },
+        outputs: n + 1,
+    };
+    counts.emit(1, result, put_one_hot)
+}
+
+/// The outputs are the cells, one more than there are inputs.
+fn put_one_hot(gates: &mut Gates, cells: &mut [u32]) {
+    if cells.len() == 1 {
+        cells[0] = gates.put([ONE, 0, 0, 0]);
+        return;
+    }
+    cells[0] = gates.not(0);
+    cells[1] = 0;
+    for i in 2..cells.len() {
+        let x = i as u32 - 1;
+        let not = gates.not(x);
+        // The cell at j - 1 as it was.
+        let mut last = cells[0];
+        cells[0] = gates.and(last, not);
+        for cell in &mut cells[1..i] {
+            let next = gates.mux(x, *cell, last);
+            last = *cell;
+            *cell = next;
+        }
+        cells[i] = gates.and(last, x);
+    }
+}
+
+// ---- threshold ----
+
+/// Writes the netlist of threshold `d` of `n` inputs to the front of `result`
+/// (list 1).
+pub fn threshold(d: u32, n: u32, result: &mut [u32]) -> Answer {
+    try_threshold(d as usize, n as usize, result).into()
+}
+
+fn try_threshold(d: usize, n: usize, result: &mut [u32]) -> Result<(), Answer> {
+    if n > MAX_COUNTED || d == 0 || d > n + 1 {
+        return Err(Answer::NO_NETLIST);
+    }
+    let counts = Counts {
+        inputs: n,
+        gates: threshold_gates(d, n),
+        outputs: 1,
+    };
+    counts.emit(1, result, |gates, outputs| {
+        outputs[0] = if d > n {
+            gates.put([ZERO, 0, 0, 0])
+        } else {
+            let x: [u32; MAX_COUNTED] = std::array::from_fn(|i| i as u32);
+            put_threshold(gates, d, &x[..n])
+        };
+    })
+}
+
+/// The gates of threshold `d` of `n`.
+const fn threshold_gates(d: usize, n: usize) -> usize {
+    if d > n {
+        return 1;
+    }
+    let multiplications = (d + 1) * (n - d + 1) - 2 - (d < n) as usize;
+    // A NOT for each cell at 0, and an XOR for each sum but the first.
+    multiplications + 2 * (n - d)
+}
+
+/// Threshold `d` of the wires `x`, of which there are at least d; its wire.
+fn put_threshold(gates: &mut Gates, d: usize, x: &[u32]) -> u32 {
+    let n = x.len();
+    let mut cells = [0; MAX_COUNTED];
+    let mut sum = 0;
+    for (i, &x) in (1..).zip(x) {
+        let least = (d + i).saturating_sub(n);
+        let most = i.min(d - 1);
+        // The cells of the level before: the highest, and the one at j - 1.
+        let highest = cells[d - 1];
+        let mut last = cells[least.max(1) - 1];
+        for (j, cell) in cells.iter_mut().enumerate().take(most + 1).skip(least) {
+            let next = match j {
+                0 => {
+                    let not = gates.not(x);
+                    if i == 1 {
+                        not
+                    } else {
+                        gates.and(*cell, not)
+                    }
+                }
+                1 if i == 1 => x,
+                _ if j == i => gates.and(last, x),
+                _ => gates.mux(x, *cell, last),
+            };
+            last = *cell;
+            *cell = next;
+        }
+        if i == d {
+            sum = if d == 1 { x } else { gates.and(highest, x) };
+        } else if i > d {
+            let reached = gates.and(highest, x);
+            sum = gates.xor(reached, sum);
+        }
+    }
+    sum
+}
+
+// ---- filters ----
+
+/// A sum of monomials, which use up the wires of a row in order.
+struct Sum<'a> {
+    rest: &'a [u32],
+    sum: Option<u32>,
+}
+
+impl<'a> Sum<'a> {
+    fn of(row: &'a [u32]) -> Self {
+        Sum {
+            rest: row,
+            sum: None,
+        }
+    }
+
+    /// Adds that many monomials of that degree.
+    #[inline]
+    fn add(&mut self, gates: &mut Gates, count: usize, degree: usize) {
+        let (used, rest) = self.rest.split_at(count * degree);
+        self.rest = rest;
+        for monomial in used.chunks_exact(degree) {
+            let product = monomial[1..]
+                .iter()
+                .fold(monomial[0], |product, &x| gates.and(product, x));
+            self.sum = Some(match self.sum {
+                None => product,
+                Some(sum) => gates.xor(sum, product),
+            });
+        }
+    }
+
+    fn wire(self) -> u32 {
+        self.sum.expect("a filter has monomials")
+    }
+}
+
+/// Writes a filter's gates on the wires of a row; its wire.
+type Filter = fn(&mut Gates, &[u32]) -> u32;
+
+/// The filters of instances 1 to 5.
+const FILTERS: [Filter; 5] = [flip_530, flip_1394, filip_1216, filip_1280, filip_144];
+
+fn flip(gates: &mut Gates, x: &[u32], linear: usize, pairs: usize, degree: usize) -> u32 {
+    let mut sum = Sum::of(x);
+    sum.add(gates, linear, 1);
+    sum.add(gates, pairs, 2);
+    for _ in 0..8 {
+        for degree in 1..=degree {
+            sum.add(gates, 1, degree);
+        }
+    }
+    sum.wire()
+}
+
+fn flip_530(gates: &mut Gates, x: &[u32]) -> u32 {
+    flip(gates, x, 42, 64, 9)
+}
+
+fn flip_1394(gates: &mut Gates, x: &[u32]) -> u32 {
+    flip(gates, x, 82, 112, 16)
+}
+
+fn filip_1216(gates: &mut Gates, x: &[u32]) -> u32 {
+    let mut sum = Sum::of(x);
+    sum.add(gates, 128, 1);
+    sum.add(gates, 64, 2);
+    sum.add(gates, 80, 4);
+    sum.add(gates, 80, 8);
+    sum.wire()
+}
+
+fn filip_1280(gates: &mut Gates, x: &[u32]) -> u32 {
+    let mut sum = Sum::of(x);
+    sum.add(gates, 128, 1);
+    sum.add(gates, 64, 2);
+    sum.add(gates, 64, 16);
+    sum.wire()
+}
+
+fn filip_144(gates: &mut Gates, x: &[u32]) -> u32 {
+    let (summed, counted) = x.split_at(81);
+    let mut sum = Sum::of(summed);
+    sum.add(gates, 81, 1);
+    let reached = put_threshold(gates, 32, counted);
+    gates.xor(sum.wire(), reached)
+}
+
+/// The gates of the filter of that instance. A sum of monomials has one less
+/// than variables: each gate makes one wire of two, and every variable is used
+/// once.
+fn filter_gates(instance: u32, row: usize) -> usize {
+    match instance {
+        5 => 80 + threshold_gates(32, 63) + 1,
+        _ => row - 1,
+    }
+}
+
+// ---- deciphering ----
+
+/// Writes the netlist that deciphers `m` bits to the front of `result`. The
+/// lists: indices 1, whitening or IV 2, result 3.
+pub fn decipher(
+    instance: u32,
+    m: u32,
+    indices: &[u32],
+    whitening: &[u8],
+    result: &mut [u32],
+) -> Answer {
+    decipher_with(instance, m, indices, whitening, result, by_marks)
+}
+
+/// The same, with the search for repeated indices to use.
+pub fn decipher_with(
+    instance: u32,
+    m: u32,
+    indices: &[u32],
+    whitening: &[u8],
+    result: &mut [u32],
+    search: Search,
+) -> Answer {
+    try_decipher(instance, m, indices, whitening, result, search).into()
+}
+
+fn try_decipher(
+    number: u32,
+    m: u32,
+    indices: &[u32],
+    whitening: &[u8],
+    result: &mut [u32],
+    search: Search,
+) -> Result<(), Answer> {
+    let lists = Lists {
+        key: None,
+        record: None,
+        indices,
+        whitening,
+    };
+    let instance = cipher::judge(number, m, &lists, search)?;
+    let m = m as usize;
+    let gates = match instance.cipher {
+        Cipher::Kreyvium => 2 + 14 * (SILENT + m) + 3 * m,
+        _ => m * (filter_gates(number, instance.row) + 1) + ones(whitening),
+    };
+    let counts = Counts {
+        inputs: instance.key + m,
+        gates,
+        outputs: m,
+    };
+    counts.emit(
+        lists.result_list(),
+        result,
+        |gates, outputs| match instance.cipher {
+            Cipher::Kreyvium => put_kreyvium(gates, whitening, outputs),
+            _ => {
+                let filter = FILTERS[number as usize - 1];
+                let mut row = [0; MAX_ROW];
+                let row = &mut row[..instance.row];
+                let records = instance.key as u32..;
+                let indices = indices.chunks_exact(instance.row);
+                let whitening = whitening.chunks_exact(instance.row);
+                let bits = outputs.iter_mut().zip(records);
+                for (((output, record), indices), whitening) in bits.zip(indices).zip(whitening) {
+                    put_variables(gates, indices, whitening, row);
+                    let filtered = filter(gates, row);
+                    *output = gates.xor(filtered, record);
+                }
+            }
+        },
+    )
+}
+
+/// How many of these bits are 1.
+fn ones(bits: &[u8]) -> usize {
+    bits.iter().map(|&bit| usize::from(bit)).sum()
+}
+
+/// Fills in the wires of a row's variables: those of the key, or of a NOT
+/// where the whitening bit is 1.
+fn put_variables(gates: &mut Gates, indices: &[u32], whitening: &[u8], row: &mut [u32]) {
+    for ((x, &index), &white) in row.iter_mut().zip(indices).zip(whitening) {
+        *x = if white == 0 { index } else { gates.not(index) };
+    }
+}
+
+/// All rounds of Kreyvium. The wires that enter at s1, s94 and s178 in a round
+/// stand in `a`, `b` and `c`, one after another, behind those that the
+/// registers held at first.
+fn put_kreyvium(gates: &mut Gates, iv: &[u8], outputs: &mut [u32]) {
+    /// The longest register.
+    const BEFORE: usize = 111;
+    let constants = [gates.put([ZERO, 0, 0, 0]), gates.put([ONE, 0, 0, 0])];
+    let iv = |place: usize| constants[usize::from(iv[place])];
+    let mut a = [0; BEFORE + SILENT + MAX_BITS];
+    let mut b = a;
+    let mut c = a;
+    for j in 1..=93 {
+        a[BEFORE - j] = j as u32 - 1;
+    }
+    for j in 1..=84 {
+        b[BEFORE - j] = iv(j - 1);
+    }
+    for j in 1..=111 {
+        c[BEFORE - j] = match j {
+            1..=44 => iv(83 + j),
+            45..=110 => constants[1],
+            _ => constants[0],
+        };
+    }
+    for round in 0..SILENT + outputs.len() {
+        let t = BEFORE + round;
+        let turned = kreyvium::BITS - 1 - round % kreyvium::BITS;
+        let t1 = gates.xor(a[t - 66], a[t - 93]);
+        let t2 = gates.xor(b[t - 69], b[t - 84]);
+        let t3 = gates.xor(c[t - 66], c[t - 111]);
+        let t3 = gates.xor(t3, turned as u32);
+        if let Some(bit) = round.checked_sub(SILENT) {
+            let stream = gates.xor(t1, t2);
+            let stream = gates.xor(stream, t3);
+            outputs[bit] = gates.xor(stream, (kreyvium::BITS + bit) as u32);
+        }
+        let product = gates.and(a[t - 91], a[t - 92]);
+        let t1 = gates.xor(t1, product);
+        let t1 = gates.xor(t1, b[t - 78]);
+        b[t] = gates.xor(t1, iv(turned));
+        let product = gates.and(b[t - 82], b[t - 83]);
+        let t2 = gates.xor(t2, product);
+        c[t] = gates.xor(t2, c[t - 87]);
+        let product = gates.and(c[t - 109], c[t - 110]);
+        let t3 = gates.xor(t3, product);
+        a[t] = gates.xor(t3, a[t - 69]);
+    }
+}
