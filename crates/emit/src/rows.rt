@@ -1,20 +1,27 @@
 // The deciphering netlists of instances 1 to 5: document 01, "What is emitted". Each bit has its NOTs, its
 // filter, and the XOR with its record bit. Room is the caller's to see to.
+use crate::levels::put_threshold;
 use crate::put::AND;
 use crate::put::NOT;
 use crate::put::XOR;
 use crate::put::put_gate;
+use crate::put::put_header;
+use crate::put::put_words;
 ghost use mathlib.Core.Path.{_≡_};
 ghost use mathlib.Core.Bool.{true};
-ghost use mathlib.Core.List.{[], _∷_};
-ghost use Prim.Native.Nat.{_+_, _*_, _≤_, _<_};
-ghost use lib.ListN.{length};
+ghost use mathlib.Core.List.{List, [], _∷_};
+ghost use Prim.Native.Nat.{ℕ, _+_, _*_, _≤_, _<_};
+ghost use lib.ListN.{length, getD};
+ghost use Rattle.answer.specs.Fronts.{over};
+ghost use Rattle.netlist.specs.Words.{words};
 ghost use Rattle.wiring.specs.Exp.{emit, product, chain, monomials, fits};
-ghost use Rattle.wiring.specs.Decipher.{nots, vars};
-ghost use Rattle.instance.specs.Table.{rowBits};
+ghost use Rattle.wiring.specs.Costs.{costOf};
+ghost use Rattle.wiring.specs.Decipher.{nots, vars, filterExp, bitPart, bitsGates, bitsOuts, rowsNet};
+ghost use Rattle.instance.specs.Table.{keyBits, rowBits};
 ghost use Rattle.filter.specs.Instances.{degreesOf};
+ghost use Rattle.wiring.specs.Rows.{Rows};
 ghost use Rattle.emit.specs.Put.{putGates, Wrote};
-ghost use Rattle.emit.specs.Deciphering.{wireOf, flips, term};
+ghost use Rattle.emit.specs.Rows.{wireOf, flips, term, Wiring};
 
 // A NOT of wire p where whitening w asks for one; how many that were.
 fn put_not(out: &mut [u32], at: usize, p: u32, w: u8) -> u32
@@ -130,4 +137,168 @@ fn put_sum(out: &mut [u32], at: usize, next: u32, instance: u32, xs: &[u32]) -> 
         4 => put_monomials(out, at, next, &filter::FILIP_1280, xs),
         _ => put_monomials(out, at, next, &filter::FILIP_144, xs),
     }
+}
+
+// An instance's filter over the variables' wires; its wire. FiLIP-144: an XOR chain of 80 gates, a threshold of
+// 1,115, and the XOR of both.
+fn put_filter(out: &mut [u32], at: usize, next: u32, instance: u32, xs: &[u32]) -> u32
+    requires { ⌜ (1 ≤ instance) × (instance ≤ 5) × (length (now xs) ≡ rowBits instance) × (getD (now xs) 81 0 < next) × (next ≤ 900000) ⌝ }
+    requires { ⌜ at + 4 * costOf instance .gates ≤ length (now out) + 4 ⌝ }
+    ensures { λ r. ⌜ Wrote (now (out .entry)) at (emit next (filterExp chain instance (now (xs .entry)))) (now (out .exit)) r ⌝ }
+{
+    let s = put_sum(out, at, next, instance, xs);
+    if instance < 5 {
+        return s;
+    }
+    let t = put_threshold(out, at + 320, next + 80, 32, &xs[81..]);
+    put_gate(out, at + 4780, XOR, s, t, 0);
+    next + 1195
+}
+
+// How many gates a bit has besides its NOTs.
+fn bit_gates(instance: u32) -> usize
+    ensures { λ r. ⌜ (r ≡ costOf instance .gates) × (r ≤ 1394) ⌝ }
+{
+    if instance == 5 {
+        return 1197;
+    }
+    instance::row_bits(instance)
+}
+
+// One bit: NOTs, filter, XOR with the record bit at wire rec; its wire. xs is room for the row's wires.
+fn put_bit(
+    out: &mut [u32],
+    at: usize,
+    instance: u32,
+    rec: u32,
+    next: u32,
+    row: &[u32],
+    ws: &[u8],
+    xs: &mut [u32],
+) -> u32
+    requires { ⌜ (1 ≤ instance) × (instance ≤ 5) × (length (now row) ≡ rowBits instance) × (length (now ws) ≡ length (now row)) × (length (now xs) ≡ length (now row)) ⌝ }
+    requires { ⌜ (getD (now row) 81 0 < next) × (next ≤ 300000) ⌝ }
+    requires { ⌜ at + 4 * (length (nots (now row) (now ws)) + costOf instance .gates) ≤ length (now out) ⌝ }
+    ensures { λ r. ⌜ Wrote (now (out .entry)) at (bitPart chain instance rec next (now (row .entry)) (now (ws .entry))) (now (out .exit)) r ⌝ }
+{
+    let k = bit_gates(instance);
+    let free = put_vars(out, at, row, ws, next, xs);
+    let i = at + 4 * ((free - next) as usize);
+    let f = put_filter(out, i, free, instance, xs);
+    put_gate(out, i + 4 * (k - 1), XOR, f, rec, 0);
+    free + ((k - 1) as u32)
+}
+
+// The gates of all bits, from word at and wire next on; wires gets the bits' wires. The record bits follow key wires.
+fn put_bits(
+    out: &mut [u32],
+    at: usize,
+    instance: u32,
+    key: u32,
+    next: u32,
+    idx: &[u32],
+    wh: &[u8],
+    xs: &mut [u32],
+    wires: &mut [u32],
+)
+    requires { ⌜ Wiring instance (length (now wires)) (now idx) (now wh) × (key ≡ keyBits instance) × (length (now xs) ≡ rowBits instance) × (key ≤ next) × (next ≤ 20000) ⌝ }
+    requires { ⌜ at + 4 * length (bitsGates chain instance (now idx) (now wh) (length (now wires)) 0 next) ≤ length (now out) ⌝ }
+    ensures { λ _. ⌜ now (out .exit) ≡ putGates (now (out .entry)) at (bitsGates chain instance (now (idx .entry)) (now (wh .entry)) (length (now (wires .entry))) 0 next) ⌝ }
+    ensures { λ _. ⌜ now (wires .exit) ≡ bitsOuts chain instance (now (idx .entry)) (now (wh .entry)) (length (now (wires .entry))) 0 next ⌝ }
+{
+    let mut i = at;
+    let mut wire = next;
+    let mut start: usize = 0;
+    let mut j: usize = 0;
+    while j < wires.len() {
+        let end = start + xs.len();
+        let rec = key + (j as u32);
+        let last = put_bit(
+            out,
+            i,
+            instance,
+            rec,
+            wire,
+            &idx[start..end],
+            &wh[start..end],
+            xs,
+        );
+        wires[j] = last;
+        i += 4 * ((last + 1 - wire) as usize);
+        wire = last + 1;
+        start = end;
+        j += 1;
+    }
+}
+
+// How many gates the netlist of m bits has, whatever the indices: a NOT for each whitening 1, and the others.
+pub(crate) fn rows_gates(instance: u32, m: u32, wh: &[u8]) -> usize
+    requires { ⌜ (1 ≤ instance) × (instance ≤ 5) × (m ≤ 64) × (length (now wh) ≡ m * rowBits instance) ⌝ }
+    ensures { λ r. ⌜ ((idx : List ℕ) → Rows instance m idx (now (wh .entry)) → r ≡ length (rowsNet chain instance idx (now (wh .entry)) m .gates)) ⌝ }
+    ensures { λ r. ⌜ r ≤ 178432 ⌝ }
+{
+    filter::count_ones(wh) + (m as usize) * bit_gates(instance)
+}
+
+// Header, gates, outputs. xs and wires are just the room for a row's wires and for the outputs.
+fn put_net(
+    out: &mut [u32],
+    instance: u32,
+    key: u32,
+    m: u32,
+    idx: &[u32],
+    wh: &[u8],
+    xs: &mut [u32],
+    wires: &mut [u32],
+)
+    requires { ⌜ Wiring instance m (now idx) (now wh) × (key ≡ keyBits instance) × (length (now xs) ≡ rowBits instance) × (length (now wires) ≡ m) ⌝ }
+    requires { ⌜ length (words (rowsNet chain instance (now idx) (now wh) m)) ≤ length (now out) ⌝ }
+    ensures { λ _. ⌜ now (out .exit) ≡ over (words (rowsNet chain instance (now (idx .entry)) (now (wh .entry)) m)) (now (out .entry)) ⌝ }
+{
+    let g = rows_gates(instance, m, wh);
+    let next = key + m;
+    put_header(out, next, g as u32, m);
+    put_bits(out, 3, instance, key, next, idx, wh, xs, wires);
+    put_words(out, 3 + 4 * g, wires);
+}
+
+// The same, where xs and wires are room for any instance and any record.
+fn put_within(
+    out: &mut [u32],
+    instance: u32,
+    m: u32,
+    idx: &[u32],
+    wh: &[u8],
+    xs: &mut [u32],
+    wires: &mut [u32],
+)
+    requires { ⌜ Wiring instance m (now idx) (now wh) × (1394 ≤ length (now xs)) × (64 ≤ length (now wires)) ⌝ }
+    requires { ⌜ length (words (rowsNet chain instance (now idx) (now wh) m)) ≤ length (now out) ⌝ }
+    ensures { λ _. ⌜ now (out .exit) ≡ over (words (rowsNet chain instance (now (idx .entry)) (now (wh .entry)) m)) (now (out .entry)) ⌝ }
+{
+    let s = instance::sizes_of(instance);
+    let key = s.key;
+    let row = s.row;
+    let count = m as usize;
+    put_net(
+        out,
+        instance,
+        key as u32,
+        m,
+        idx,
+        wh,
+        &mut xs[..row],
+        &mut wires[..count],
+    );
+}
+
+// The deciphering netlist of m bits of an instance from 1 to 5, written at the front of out.
+pub(crate) fn put_rows_net(out: &mut [u32], instance: u32, m: u32, idx: &[u32], wh: &[u8])
+    requires { ⌜ Wiring instance m (now idx) (now wh) ⌝ }
+    requires { ⌜ length (words (rowsNet chain instance (now idx) (now wh) m)) ≤ length (now out) ⌝ }
+    ensures { λ _. ⌜ now (out .exit) ≡ over (words (rowsNet chain instance (now (idx .entry)) (now (wh .entry)) m)) (now (out .entry)) ⌝ }
+{
+    let mut xs = [0u32; 1394];
+    let mut wires = [0u32; 64];
+    put_within(out, instance, m, idx, wh, &mut xs, &mut wires);
 }

@@ -1,4 +1,4 @@
-use Rattle.emit.proofs.Variables.{wire-plain, wire-not}
+use Rattle.emit.proofs.RowsVariables.{wire-plain, wire-not}
 use Rattle.emit.proofs.rows.pick_wire.Statement.{statement}
 use Rattle.emit.proofs.rows.pick_wire.Tie as tie
 

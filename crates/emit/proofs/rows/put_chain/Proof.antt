@@ -1,7 +1,7 @@
 use Prim.Native.Nat.{_-_}
 use native.Mathlib.Omega.{arith}
 use lib.ListN.{length}
-use Rattle.emit.proofs.Chain.{Chaining, chaining-start, chaining-step, chaining-end}
+use Rattle.emit.proofs.RowsProduct.{Chaining, chaining-start, chaining-step, chaining-end}
 use Rattle.emit.proofs.rows.put_chain.Statement.{statement}
 use Rattle.emit.proofs.rows.put_chain.Tie as tie
 

@@ -5,7 +5,7 @@ use native.Mathlib.Omega.{arith}
 use borrow.Author.Needs.{needs}
 use lib.ListN.{length}
 use lib.ListN.{length-take, length-drop}
-use Rattle.emit.proofs.Sums.{Onward, here, summing-first, summing-start, summing-turn, summing-end}
+use Rattle.emit.proofs.RowsSum.{Onward, here, summing-first, summing-start, summing-turn, summing-end}
 use Rattle.emit.proofs.rows.put_monomials.Statement.{statement}
 use Rattle.emit.proofs.rows.put_monomials.Tie as tie
 

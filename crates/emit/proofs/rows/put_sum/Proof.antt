@@ -3,7 +3,7 @@ use mathlib.Core.Path.{_≡_, ap, _∙_}
 use native.Mathlib.Omega.{arith}
 use Rattle.instance.specs.Table.{rowBits}
 use Rattle.filter.specs.Instances.{degreesOf}
-use Rattle.emit.proofs.Tables.{table-fits, table-some}
+use Rattle.emit.proofs.RowsTable.{table-fits, table-some}
 use Rattle.emit.proofs.rows.put_sum.Statement.{statement}
 use Rattle.emit.proofs.rows.put_sum.Tie as tie
 

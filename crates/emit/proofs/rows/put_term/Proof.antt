@@ -1,6 +1,6 @@
 use borrow.Author.Needs.{needs}
 use mathlib.Core.Path.{refl}
-use Rattle.emit.proofs.Sums.{term-wrote}
+use Rattle.emit.proofs.RowsSum.{term-wrote}
 use Rattle.emit.proofs.rows.put_term.Statement.{statement}
 use Rattle.emit.proofs.rows.put_term.Tie as tie
 

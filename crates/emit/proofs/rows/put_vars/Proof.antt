@@ -3,7 +3,7 @@ use Prim.Native.Nat.{_-_}
 use native.Mathlib.Omega.{arith}
 use borrow.Author.Needs.{needs}
 use lib.ListN.{length}
-use Rattle.emit.proofs.Variables.{Going, going-start, going-room, going-step, going-end}
+use Rattle.emit.proofs.RowsVariables.{Going, going-start, going-room, going-step, going-end}
 use Rattle.emit.proofs.rows.put_vars.Statement.{statement}
 use Rattle.emit.proofs.rows.put_vars.Tie as tie
 

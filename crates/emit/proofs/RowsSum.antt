@@ -11,11 +11,12 @@ use lib.Seq.{sets, take-all, take-suc, drop-cons, drop-drop}
 use Rattle.netlist.specs.declared.gate.Gate.the-variants.{And, Xor}
 use Rattle.netlist.specs.Part.{Part, past, input, join}
 use Rattle.netlist.proofs.Parts.{length-join}
+use Rattle.filter.proofs.Published.{total}
 use Rattle.wiring.specs.Exp.{Exp, sum, emit, Split, one, two, factors, chain, product, addAll, monomials, fits}
 use Rattle.emit.specs.Put.{putGates, Wrote}
-use Rattle.emit.specs.Deciphering.{term}
+use Rattle.emit.specs.Rows.{term}
 use Rattle.emit.proofs.Puts as puts
-use Rattle.emit.proofs.Shapes.{chain-splits, Fits, fits-cons}
+use Rattle.wiring.proofs.Products.{chain-splits, Fits, fits-cons}
 use Rattle.emit.proofs.Writes.{wrote-same}
 
 -- a product of k wires takes k - 1 gates
@@ -46,10 +47,6 @@ term-wrote out o1 o2 at i next acc w r k ws h ek ei er g e =
       gates = puts.next out o1 o2 at i (p .gates) (Xor acc (p .out)) (g .gates) (e ∙ ap (λ (z : ℕ). sets o1 i (3 ∷ acc ∷ z ∷ 0 ∷ [])) (g .wire)) q;
       wire = omega arith;
     }
-
-unfoldable pub total : List ℕ → ℕ
-total [] = 0
-total (d ∷ ds) = d + total ds
 
 total-snoc : (ds : List ℕ) (d : ℕ) → total (ds ++ d ∷ []) ≡ total ds + d
 unfolding total

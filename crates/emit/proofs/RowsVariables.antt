@@ -8,7 +8,7 @@ use lib.ListN.{length, getD, take, drop, set, length-append, length-set, drop-of
 use lib.Seq.{sets, drop-cons, take-suc-set, take-all}
 use Rattle.wiring.specs.Decipher.{nots, vars}
 use Rattle.emit.specs.Put.{putGates}
-use Rattle.emit.specs.Deciphering.{wireOf, flips}
+use Rattle.emit.specs.Rows.{wireOf, flips}
 use Rattle.emit.proofs.Puts.{put-append, put-length}
 
 nots-one : (p w : ℕ) (ps ws : List ℕ) → nots (p ∷ ps) (w ∷ ws) ≡ nots (p ∷ []) (w ∷ []) ++ nots ps ws
@@ -25,6 +25,24 @@ vars-one : (p w : ℕ) (ps ws : List ℕ) (next : ℕ) → vars next (p ∷ ps) 
 unfolding vars wireOf flips
 vars-one p zero ps ws next = let e : next ≡ next + 0 = omega arith in ap (λ (n : ℕ). p ∷ vars n ps ws) e
 vars-one p (suc w) ps ws next = ap (λ (n : ℕ). next ∷ vars n ps ws) (sym (add-one next))
+
+pub nots-few : (row ws : List ℕ) → length (nots row ws) ≤ length row
+unfolding nots
+nots-few [] ws = omega arith
+nots-few (p ∷ ps) [] = omega (arith, nots-few ps [])
+nots-few (p ∷ ps) (zero ∷ ws) = omega (arith, nots-few ps ws)
+nots-few (p ∷ ps) (suc w ∷ ws) = omega (arith, nots-few ps ws)
+
+-- a variable's wire is there after the NOTs if its key wire is there before
+pub vars-at : (next j : ℕ) (row ws : List ℕ) → j < length row → getD row j 0 < next → getD (vars next row ws) j 0 < next + length (nots row ws)
+unfolding nots vars
+vars-at next j [] ws h b = absurd (omega arith)
+vars-at next zero (p ∷ ps) [] h b = omega arith
+vars-at next zero (p ∷ ps) (zero ∷ ws) h b = omega arith
+vars-at next zero (p ∷ ps) (suc w ∷ ws) h b = omega arith
+vars-at next (suc j) (p ∷ ps) [] h b = vars-at next j ps [] (omega arith) b
+vars-at next (suc j) (p ∷ ps) (zero ∷ ws) h b = vars-at next j ps ws (omega arith) b
+vars-at next (suc j) (p ∷ ps) (suc w ∷ ws) h b = omega (arith, vars-at (suc next) j ps ws (omega arith) (omega arith))
 
 flips-bit : (w : ℕ) → flips w ≤ 1
 unfolding flips
@@ -129,8 +147,3 @@ pub flips-one : (w : ℕ) → (w ≡ 0 → ⊥) → flips w ≡ 1
 unfolding flips
 flips-one zero e = absurd (e refl)
 flips-one (suc w) e = refl
-
-pub flips-zero : (w : ℕ) → w ≡ 0 → flips w ≡ 0
-unfolding flips
-flips-zero zero e = refl
-flips-zero (suc w) e = absurd (omega arith)

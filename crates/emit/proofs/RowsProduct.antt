@@ -11,7 +11,7 @@ use Rattle.netlist.specs.Part.{Part, past, input, join}
 use Rattle.wiring.specs.Exp.{emit, factors, chain, product}
 use Rattle.emit.specs.Put.{putGates, Wrote}
 use Rattle.emit.proofs.Puts as puts
-use Rattle.emit.proofs.Shapes.{chain-splits}
+use Rattle.wiring.proofs.Products.{chain-splits}
 use Rattle.emit.proofs.Writes.{wrote-same}
 
 -- the product of the first j wires
