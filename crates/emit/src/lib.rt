@@ -1,4 +1,6 @@
 // Emission of one-hot, threshold and deciphering netlists: document 01, "What is emitted".
 mod judge;
+mod levels;
 mod put;
 mod register;
+mod rows;

@@ -1252,7 +1252,7 @@ pub fn sum_monomials(degrees: &[u8], x: &[u8]) -> u8
 }
 
 // How many of the bits are 1.
-fn count_ones(x: &[u8]) -> usize
+pub fn count_ones(x: &[u8]) -> usize
     ensures { λ r. ⌜ r ≡ ones (now (x .entry)) ⌝ }
 {
     let mut n: usize = 0;

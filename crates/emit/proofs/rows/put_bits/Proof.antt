@@ -1,0 +1,230 @@
+use Prim.Native.Nat.{_-_}
+use mathlib.Core.Path.{refl, sym, _∙_}
+use native.Mathlib.Omega.{arith}
+use lib.ListN.{length}
+use Rattle.emit.proofs.RowsBits.{Bitting, turn, bitting-start, bitting-turn, bitting-end, last-bound}
+use Rattle.emit.proofs.rows.put_bits.Statement.{statement}
+use Rattle.emit.proofs.rows.put_bits.Tie as tie
+
+abbrev Inv-loop : tie.InvT-loop
+Inv-loop out₀ at instance key next idx wh xs₀ wires₀ i₀ wire₀ start₀ j₀ out xs wires i wire start j = Bitting instance idx wh (length wires₀) at next out₀ out xs wires i wire start j
+
+abbrev μ-loop : tie.MeasureT-loop
+μ-loop out₀ at instance key next idx wh xs₀ wires₀ i₀ wire₀ start₀ j₀ out xs wires i wire start j = length wires₀ - j
+
+loop-holds : tie.Need-loop-holds Inv-loop μ-loop
+loop-holds c = let s = c .before .before .before .before .before in bitting-start _ _ _ _ _ _ _ (s .pre .0 .0) (omega arith) (s .pre .0 .4) _ _ (s .pre .0 .2) refl (s .pre .1)
+
+add-end : tie.Need-add-end Inv-loop μ-loop
+add-end c =
+    let l = c in
+    let s = l .before .before .before .before .before .before .before in
+    let p = s .pre .0 in
+    let t = turn _ _ _ _ _ _ _ (p .0) (omega arith) (p .4) _ _ _ _ _ _ _ (l .before .loop .inv) (omega arith) in
+    omega (arith, t .rowMost, t .ends)
+
+cast-rec : tie.Need-cast-rec Inv-loop μ-loop
+cast-rec c =
+    let l = c in
+    let s = l .before .before .before .before .before .before .before in
+    let p = s .pre .0 in
+    let t = turn _ _ _ _ _ _ _ (p .0) (omega arith) (p .4) _ _ _ _ _ _ _ (l .before .loop .inv) (omega arith) in
+    omega (arith, t .count)
+
+add-rec : tie.Need-add-rec Inv-loop μ-loop
+add-rec c =
+    let l = c in
+    let s = l .before .before .before .before .before .before .before in
+    let p = s .pre .0 in
+    let t = turn _ _ _ _ _ _ _ (p .0) (omega arith) (p .4) _ _ _ _ _ _ _ (l .before .loop .inv) (omega arith) in
+    omega (arith, t .count, t .keyMost)
+
+mul-put-bit : tie.Need-mul-put-bit Inv-loop μ-loop
+mul-put-bit c =
+    let l = c .before in
+    let s = l .before .before .before .before .before .before .before in
+    let p = s .pre .0 in
+    let t = turn _ _ _ _ _ _ _ (p .0) (omega arith) (p .4) _ _ _ _ _ _ _ (l .before .loop .inv) (omega arith) in
+    omega arith
+
+sub-put-bit : tie.Need-sub-put-bit Inv-loop μ-loop
+sub-put-bit c =
+    let l = c .before in
+    let s = l .before .before .before .before .before .before .before in
+    let p = s .pre .0 in
+    let t = turn _ _ _ _ _ _ _ (p .0) (omega arith) (p .4) _ _ _ _ _ _ _ (l .before .loop .inv) (omega arith) in
+    omega arith
+
+part-put-bit-start : tie.Need-part-put-bit-start Inv-loop μ-loop
+part-put-bit-start c =
+    let l = c .before in
+    let s = l .before .before .before .before .before .before .before in
+    let p = s .pre .0 in
+    let t = turn _ _ _ _ _ _ _ (p .0) (omega arith) (p .4) _ _ _ _ _ _ _ (l .before .loop .inv) (omega arith) in
+    omega (arith, t .ends)
+
+part-put-bit-end : tie.Need-part-put-bit-end Inv-loop μ-loop
+part-put-bit-end c =
+    let l = c .before in
+    let s = l .before .before .before .before .before .before .before in
+    let p = s .pre .0 in
+    let t = turn _ _ _ _ _ _ _ (p .0) (omega arith) (p .4) _ _ _ _ _ _ _ (l .before .loop .inv) (omega arith) in
+    omega (arith, t .ends)
+
+sub-put-bit-2 : tie.Need-sub-put-bit-2 Inv-loop μ-loop
+sub-put-bit-2 c =
+    let l = c .before .before in
+    let s = l .before .before .before .before .before .before .before in
+    let p = s .pre .0 in
+    let t = turn _ _ _ _ _ _ _ (p .0) (omega arith) (p .4) _ _ _ _ _ _ _ (l .before .loop .inv) (omega arith) in
+    omega arith
+
+part-put-bit-start-2 : tie.Need-part-put-bit-start-2 Inv-loop μ-loop
+part-put-bit-start-2 c =
+    let l = c .before .before in
+    let s = l .before .before .before .before .before .before .before in
+    let p = s .pre .0 in
+    let t = turn _ _ _ _ _ _ _ (p .0) (omega arith) (p .4) _ _ _ _ _ _ _ (l .before .loop .inv) (omega arith) in
+    omega (arith, t .ends-wh)
+
+part-put-bit-end-2 : tie.Need-part-put-bit-end-2 Inv-loop μ-loop
+part-put-bit-end-2 c =
+    let l = c .before .before in
+    let s = l .before .before .before .before .before .before .before in
+    let p = s .pre .0 in
+    let t = turn _ _ _ _ _ _ _ (p .0) (omega arith) (p .4) _ _ _ _ _ _ _ (l .before .loop .inv) (omega arith) in
+    omega (arith, t .ends-wh)
+
+put-bit-requires : tie.Need-put-bit-requires Inv-loop μ-loop
+put-bit-requires c κs =
+    let l = c .before .before .before .before in
+    let s = l .before .before .before .before .before .before .before in
+    let p = s .pre .0 in
+    let t = turn _ _ _ _ _ _ _ (p .0) (omega arith) (p .4) _ _ _ _ _ _ _ (l .before .loop .inv) (omega arith) in
+    ((p .0 .low, p .0 .high, t .row, t .white ∙ sym (t .row), omega (arith, t .row)), ((t .below, t .small), t .space))
+
+mul-wires : tie.Need-mul-wires Inv-loop μ-loop
+mul-wires c = omega arith
+
+slice-write-wires : tie.Need-slice-write-wires Inv-loop μ-loop
+slice-write-wires c = omega arith
+
+add-i : tie.Need-add-i Inv-loop μ-loop
+add-i c =
+    let b = c .before .before .before .before in
+    let l = b .before .before .before .before .before in
+    let s = l .before .before .before .before .before .before .before in
+    let p = s .pre .0 in
+    let t = turn _ _ _ _ _ _ _ (p .0) (omega arith) (p .4) _ _ _ _ _ _ _ (l .before .loop .inv) (omega arith) in
+    let k = last-bound _ _ _ _ _ _ _ (p .0) (omega arith) (p .4) _ _ _ _ _ _ _ (l .before .loop .inv) (omega arith) _ (p .1) _ _ (b .put-bit .ensures) in
+    omega (arith, k .less, t .small)
+
+sub-i : tie.Need-sub-i Inv-loop μ-loop
+sub-i c =
+    let b = c .before .before .before .before in
+    let l = b .before .before .before .before .before in
+    let s = l .before .before .before .before .before .before .before in
+    let p = s .pre .0 in
+    let t = turn _ _ _ _ _ _ _ (p .0) (omega arith) (p .4) _ _ _ _ _ _ _ (l .before .loop .inv) (omega arith) in
+    let k = last-bound _ _ _ _ _ _ _ (p .0) (omega arith) (p .4) _ _ _ _ _ _ _ (l .before .loop .inv) (omega arith) _ (p .1) _ _ (b .put-bit .ensures) in
+    omega (arith, k .more)
+
+cast-i : tie.Need-cast-i Inv-loop μ-loop
+cast-i c =
+    let b = c .before .before .before .before in
+    let l = b .before .before .before .before .before in
+    let s = l .before .before .before .before .before .before .before in
+    let p = s .pre .0 in
+    let t = turn _ _ _ _ _ _ _ (p .0) (omega arith) (p .4) _ _ _ _ _ _ _ (l .before .loop .inv) (omega arith) in
+    let k = last-bound _ _ _ _ _ _ _ (p .0) (omega arith) (p .4) _ _ _ _ _ _ _ (l .before .loop .inv) (omega arith) _ (p .1) _ _ (b .put-bit .ensures) in
+    omega (arith, k .less, t .small)
+
+mul-i : tie.Need-mul-i Inv-loop μ-loop
+mul-i c =
+    let b = c .before .before .before .before in
+    let l = b .before .before .before .before .before in
+    let s = l .before .before .before .before .before .before .before in
+    let p = s .pre .0 in
+    let t = turn _ _ _ _ _ _ _ (p .0) (omega arith) (p .4) _ _ _ _ _ _ _ (l .before .loop .inv) (omega arith) in
+    let k = last-bound _ _ _ _ _ _ _ (p .0) (omega arith) (p .4) _ _ _ _ _ _ _ (l .before .loop .inv) (omega arith) _ (p .1) _ _ (b .put-bit .ensures) in
+    omega (arith, k .less, t .small)
+
+add-i-2 : tie.Need-add-i-2 Inv-loop μ-loop
+add-i-2 c =
+    let b = c .before .before .before .before in
+    let l = b .before .before .before .before .before in
+    let s = l .before .before .before .before .before .before .before in
+    let p = s .pre .0 in
+    let t = turn _ _ _ _ _ _ _ (p .0) (omega arith) (p .4) _ _ _ _ _ _ _ (l .before .loop .inv) (omega arith) in
+    let k = last-bound _ _ _ _ _ _ _ (p .0) (omega arith) (p .4) _ _ _ _ _ _ _ (l .before .loop .inv) (omega arith) _ (p .1) _ _ (b .put-bit .ensures) in
+    omega (arith, k .space)
+
+add-wire : tie.Need-add-wire Inv-loop μ-loop
+add-wire c =
+    let b = c .before .before .before .before in
+    let l = b .before .before .before .before .before in
+    let s = l .before .before .before .before .before .before .before in
+    let p = s .pre .0 in
+    let t = turn _ _ _ _ _ _ _ (p .0) (omega arith) (p .4) _ _ _ _ _ _ _ (l .before .loop .inv) (omega arith) in
+    let k = last-bound _ _ _ _ _ _ _ (p .0) (omega arith) (p .4) _ _ _ _ _ _ _ (l .before .loop .inv) (omega arith) _ (p .1) _ _ (b .put-bit .ensures) in
+    omega (arith, k .less, t .small)
+
+add-j : tie.Need-add-j Inv-loop μ-loop
+add-j c = omega arith
+
+loop-less : tie.Need-loop-less Inv-loop μ-loop
+loop-less c = omega arith
+
+loop-again : tie.Need-loop-again Inv-loop μ-loop
+loop-again c =
+    let b = c .before .before .before .before in
+    let l = b .before .before .before .before .before in
+    let s = l .before .before .before .before .before .before .before in
+    let p = s .pre .0 in
+    bitting-turn _ _ _ _ _ _ _ (p .0) (omega arith) (p .4) _ _ _ _ _ _ _ (l .before .loop .inv) (omega arith) _ (p .1) _ _ (b .put-bit .ensures) _ (b .put-bit .kept .1 .1 .1 .1 .1 .1 .1 .0)
+
+same-length : tie.Need-same-length Inv-loop μ-loop
+same-length c = c .before .loop .inv .outLong
+
+same-length-2 : tie.Need-same-length-2 Inv-loop μ-loop
+same-length-2 c = c .before .loop .inv .xsLong ∙ sym (c .before .before .before .before .before .before .before .pre .0 .2)
+
+same-length-3 : tie.Need-same-length-3 Inv-loop μ-loop
+same-length-3 c = c .before .loop .inv .wiresLong
+
+returns : tie.Need-returns Inv-loop μ-loop
+returns c = let s = c .before .before .before .before .before .before .before in bitting-end _ _ _ _ _ _ _ (s .pre .0 .0) (omega arith) (s .pre .0 .4) _ _ _ _ _ _ _ (c .before .loop .inv) (omega arith)
+
+pub put-bits-spec : {M : Type 1} → statement M
+put-bits-spec =
+    tie.close
+    (tie.spec
+    Inv-loop
+    μ-loop
+    loop-holds
+    add-end
+    cast-rec
+    add-rec
+    mul-put-bit
+    sub-put-bit
+    part-put-bit-start
+    part-put-bit-end
+    sub-put-bit-2
+    part-put-bit-start-2
+    part-put-bit-end-2
+    put-bit-requires
+    mul-wires
+    slice-write-wires
+    add-i
+    sub-i
+    cast-i
+    mul-i
+    add-i-2
+    add-wire
+    add-j
+    loop-less
+    loop-again
+    same-length
+    same-length-2
+    same-length-3
+    returns)
