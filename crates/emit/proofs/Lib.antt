@@ -1,1 +1,4 @@
 pub mod Puts
+pub mod Leaves
+pub mod Climbing
+pub mod Shapes
