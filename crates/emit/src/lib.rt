@@ -1,6 +1,95 @@
 // Emission of one-hot, threshold and deciphering netlists: document 01, "What is emitted".
 mod judge;
 mod levels;
+mod nets;
 mod put;
 mod register;
 mod rows;
+
+use answer::Answer;
+ghost use mathlib.Core.Path.{_≡_};
+ghost use Prim.Native.Nat.{_≤_};
+ghost use lib.ListN.{length};
+ghost use Rattle.answer.specs.Fronts.{over};
+ghost use Rattle.cells.specs.Cells.{oneHotNet, thresholdNet};
+ghost use Rattle.netlist.specs.Words.{words};
+ghost use Rattle.emit.specs.Emit.{oneHotAnswer, thresholdAnswer, decipherNet, decipherAnswer, Emitted};
+ghost use Rattle.emit.specs.Lent.{Lent};
+
+// The one-hot netlist of n inputs.
+pub fn emit_one_hot(n: u32, result: &mut [u32]) -> Answer
+    ensures { λ r. ⌜ Emitted (oneHotAnswer n (length (now (result .entry)))) (oneHotNet n) (now (result .entry)) r (now (result .exit)) ⌝ }
+{
+    if 64 < n {
+        return Answer::Refused {
+            number: answer::SHAPE,
+            list: 0,
+            place: 0,
+        };
+    }
+    let mut wires = [0u32; 64];
+    nets::one_hot(n, result, &mut wires)
+}
+
+// Threshold d of n inputs.
+pub fn emit_threshold(d: u32, n: u32, result: &mut [u32]) -> Answer
+    ensures { λ r. ⌜ Emitted (thresholdAnswer d n (length (now (result .entry)))) (thresholdNet d n) (now (result .entry)) r (now (result .exit)) ⌝ }
+{
+    if nets::no_threshold(d, n) {
+        return Answer::Refused {
+            number: answer::SHAPE,
+            list: 0,
+            place: 0,
+        };
+    }
+    let mut wires = [0u32; 64];
+    nets::threshold(d, n, result, &mut wires)
+}
+
+// How many words the deciphering netlist of an accepted wiring has.
+fn decipher_words(instance: u32, m: u32, indices: &[u32], whitening: &[u8]) -> usize
+    requires { ⌜ Lent instance m (now indices) (now whitening) ⌝ }
+    ensures { λ r. ⌜ r ≡ length (words (decipherNet instance m (now (indices .entry)) (now (whitening .entry)))) ⌝ }
+{
+    let bits = m as usize;
+    if instance == 6 {
+        return 64523 + 69 * bits;
+    }
+    3 + 4 * rows::rows_gates(instance, m, whitening) + bits
+}
+
+// That netlist, where there is room for it.
+fn put_decipher(instance: u32, m: u32, indices: &[u32], whitening: &[u8], result: &mut [u32])
+    requires { ⌜ Lent instance m (now indices) (now whitening) ⌝ }
+    requires { ⌜ length (words (decipherNet instance m (now indices) (now whitening))) ≤ length (now result) ⌝ }
+    ensures { λ _. ⌜ now (result .exit) ≡ over (words (decipherNet instance m (now (indices .entry)) (now (whitening .entry)))) (now (result .entry)) ⌝ }
+{
+    if instance == 6 {
+        register::put_kreyvium(result, whitening, m);
+    } else {
+        rows::put_rows_net(result, instance, m, indices, whitening);
+    }
+}
+
+// The deciphering netlist of an instance for a record of m bits. whitening is the IV for Kreyvium.
+pub fn emit_decipher(
+    instance: u32,
+    m: u32,
+    indices: &[u32],
+    whitening: &[u8],
+    result: &mut [u32],
+) -> Answer
+    ensures { λ r. ⌜ Emitted (decipherAnswer instance m (now (indices .entry)) (now (whitening .entry)) (length (now (result .entry)))) (decipherNet instance m (now (indices .entry)) (now (whitening .entry))) (now (result .entry)) r (now (result .exit)) ⌝ }
+{
+    let r = judge::wiring(instance, m, indices, whitening);
+    let Answer::Done = r else {
+        return r;
+    };
+    let needed = decipher_words(instance, m, indices, whitening);
+    let s = instance::room(result.len(), needed, 3);
+    let Answer::Done = s else {
+        return s;
+    };
+    put_decipher(instance, m, indices, whitening, result);
+    Answer::Done
+}
