@@ -35,7 +35,7 @@ loop-less c = omega arith
 loop-again : tie.Need-loop-again Inv-loop μ-loop
 loop-again c =
     let b = c .before .before in let l = b .before .before .before .loop in
-    (tail-turn _ _ _ _ _ _ _ (b .before .before .loop-test .taken) (b .put-gate .ensures) ∙ l .inv .0, b .put-gate .kept .0 ∙ l .inv .1, omega arith, omega arith)
+    (tail-turn (l .out) _ (l .i) _ (l .before) (l .cell) (l .left) (b .before .before .loop-test .taken) (b .put-gate .ensures) ∙ l .inv .0, b .put-gate .kept .0 ∙ l .inv .1, omega arith, omega arith)
 
 put-gate-requires-2 : tie.Need-put-gate-requires-2 Inv-loop μ-loop
 put-gate-requires-2 c κs = omega arith
