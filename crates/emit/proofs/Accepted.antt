@@ -1,21 +1,28 @@
 -- What Done tells of emit_decipher.
-use Prim.Native.Nat.{ℕ, _*_, _≤_}
+use Prim.Native.Nat.{ℕ, _+_, _*_, _≤_}
 use mathlib.Core.Path.{_≡_, ap, _∙_}
 use mathlib.Core.List.{List}
+use native.Mathlib.Omega.{arith}
 use lib.ListN.{length}
 use borrow.Author.Tests.{eq-eqb, ne-eqb}
-use Rattle.answer.specs.declared.Answer.the-variants.{Done}
-use Rattle.answer.proofs.Rows.{first-done, then-done}
+use Rattle.answer.specs.declared.Answer.{Answer}
+use Rattle.answer.specs.declared.Answer.the-variants.{Done, Refused}
+use Rattle.answer.proofs.Rows.{first-done, then-done, stop, pass}
 use Rattle.answer.proofs.Search.{bits-done}
 use Rattle.netlist.specs.Net.{Net}
 use Rattle.netlist.specs.Words.{words}
 use Rattle.instance.specs.Table.{rowBits, whiteBits}
+use Rattle.instance.specs.Judging.{roomAnswer}
 use Rattle.instance.proofs.Judged.{numbers-done, length-done, room-done, rows-done}
 use Rattle.wiring.specs.Exp.{chain}
 use Rattle.wiring.specs.Decipher.{rowsNet}
 use Rattle.rounds.specs.Gates.{kreyviumNet}
 use Rattle.emit.specs.Emit.{wiringAnswer, decipherAnswer, decipherNet}
+use Rattle.wiring.proofs.Claims.{rows-outs}
 use Rattle.emit.specs.Lent.{Lent}
+use Rattle.emit.specs.Rows.{Wiring}
+use Rattle.emit.proofs.Puts.{words-length}
+use Rattle.emit.proofs.KreyviumWords.{kreyvium-length}
 
 pub wiring-lent : (inst m : ℕ) (idx wh : List ℕ) → wiringAnswer inst m idx wh ≡ Done → Lent inst m idx wh
 unfolding wiringAnswer
@@ -40,6 +47,17 @@ pub decipher-lent : (inst m : ℕ) (idx wh : List ℕ) (n : ℕ) → decipherAns
 unfolding decipherAnswer
 decipher-lent inst m idx wh n e = (wiring-lent inst m idx wh (first-done _ _ e), room-done 3 n _ (then-done _ _ e))
 
+-- for the call: a refusal of the wiring, and what is answered once it is accepted
+pub refused-early : (inst m : ℕ) (idx wh : List ℕ) (n : ℕ) {r : Answer} {x y z : ℕ} → r ≡ wiringAnswer inst m idx wh → r ≡ Refused x y z
+    → r ≡ decipherAnswer inst m idx wh n
+unfolding decipherAnswer
+refused-early inst m idx wh n e f = stop _ e f
+
+pub judged : (inst m : ℕ) (idx wh : List ℕ) (n : ℕ) {r : Answer} → wiringAnswer inst m idx wh ≡ Done
+    → r ≡ roomAnswer 3 n (length (words (decipherNet inst m idx wh))) → r ≡ decipherAnswer inst m idx wh n
+unfolding decipherAnswer
+judged inst m idx wh n e f = pass e f
+
 -- which of the two netlists it is
 pub net-kreyvium : (inst m : ℕ) (idx wh : List ℕ) → inst ≡ 6 → decipherNet inst m idx wh ≡ kreyviumNet wh m
 unfolding decipherNet
@@ -57,3 +75,24 @@ iv-lent inst m idx wh l e = l .whitening ∙ ap (λ (i : ℕ). whiteBits i m) e
 pub rows-lent : (inst m : ℕ) (idx wh : List ℕ) → Lent inst m idx wh → (inst ≡ 6 → ⊥) → length wh ≡ m * rowBits inst
 unfolding whiteBits
 rows-lent inst m idx wh l h = l .whitening ∙ rw (ne-eqb inst 6 h)
+
+pub wiring-of : (inst m : ℕ) (idx wh : List ℕ) → Lent inst m idx wh → (inst ≡ 6 → ⊥) → Wiring inst m idx wh
+wiring-of inst m idx wh l h =
+    record {
+      low = l .least;
+      high = omega (arith, l .most);
+      few = l .few;
+      rows = record { indices = l .indices; whitening = rows-lent inst m idx wh l h; below = l .below; whiteBit = l .bits };
+    }
+
+-- how many words the netlist has
+pub kreyvium-words : (inst m : ℕ) (idx wh : List ℕ) → inst ≡ 6 → length (words (decipherNet inst m idx wh)) ≡ 64523 + 69 * m
+kreyvium-words inst m idx wh e = ap (λ (n : Net). length (words n)) (net-kreyvium inst m idx wh e) ∙ kreyvium-length wh m
+
+pub rows-words : (inst m g : ℕ) (idx wh : List ℕ) → Lent inst m idx wh → (inst ≡ 6 → ⊥) → g ≡ length (rowsNet chain inst idx wh m .gates)
+    → length (words (decipherNet inst m idx wh)) ≡ 3 + 4 * g + m
+rows-words inst m g idx wh l h e =
+    let w = wiring-of inst m idx wh l h in
+    ap (λ (n : Net). length (words n)) (net-rows inst m idx wh h)
+    ∙ words-length (rowsNet chain inst idx wh m)
+    ∙ omega (arith, rows-outs inst m idx wh (w .low) (w .high) (w .rows))
