@@ -88,7 +88,7 @@ returns-3 c =
     let d = t .before .before .before in
     let a = d .before .before .before .before .before .before .before .args in
     record {
-      answered = sym (judged _ _ _ _ _ (accepted (d .before)) (t .before .before .room .ensures ∙ ap (roomAnswer 3 (length (now (a .result)))) (d .decipher-words .ensures))) ∙ t .enum-told3 .given .1;
+      answered = sym (t .enum-told3 .given .1) ∙ judged _ _ _ _ _ (accepted (d .before)) (t .before .before .room .ensures ∙ ap (roomAnswer 3 (length (now (a .result)))) (d .decipher-words .ensures));
       written = k .put-decipher .ensures ∙ made _ _ refl;
     }
 
