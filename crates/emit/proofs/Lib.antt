@@ -14,3 +14,6 @@ pub mod RowsFilter
 pub mod RowsBit
 pub mod RowsBits
 pub mod RowsNet
+pub mod Leaves
+pub mod Climbing
+pub mod Shapes

@@ -4,3 +4,4 @@ pub mod Rows
 pub mod Lent
 pub mod KreyviumPlaces
 pub mod KreyviumRounds
+pub mod Levels

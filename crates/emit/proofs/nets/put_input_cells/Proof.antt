@@ -1,0 +1,58 @@
+use borrow.Author.Needs.{needs}
+use Prim.Native.Nat.{ℕ}
+use mathlib.Core.Path.{_≡_, sym, ap, _∙_}
+use mathlib.Core.List.{List}
+use native.Mathlib.Omega.{arith}
+use denote.Ref.{now}
+use lib.ListN.{length, take}
+use Rattle.netlist.specs.Glue.{upFrom}
+use Rattle.netlist.proofs.Glued.{upFrom-length, upFrom-at}
+use Rattle.cells.specs.Loop.{cells}
+use Rattle.emit.specs.Put.{putGates}
+use Rattle.emit.proofs.Shapes.{wires-taken}
+use Rattle.emit.proofs.nets.put_input_cells.Statement.{statement}
+use Rattle.emit.proofs.nets.put_input_cells.Tie as tie
+
+-- the wires lent are those of the inputs
+inputs : (c : tie.After-put-cells-arg2) → let n = c .before .before .before .before .before .before .before .before .args .n in
+    take n (c .before .before .before .before .put-wires .last .0) ≡ upFrom 0 n
+inputs c =
+    let s = c .before .before .before .before .before .before .before .before in
+    wires-taken (s .args .n) (now (s .args .wires)) _ (omega arith) (c .before .before .before .before .put-wires .ensures)
+
+put-wires-requires : tie.Need-put-wires-requires
+put-wires-requires c κs = search needs
+
+slice-reshare-prefix-put-cells : tie.Need-slice-reshare-prefix-put-cells
+slice-reshare-prefix-put-cells c = search needs
+
+slice-aggregate-put-cells : tie.Need-slice-aggregate-put-cells
+slice-aggregate-put-cells c = let n = c .before .before .before .before .before .before .before .before .args .n in sym (ap length (inputs c) ∙ upFrom-length 0 n)
+
+put-cells-requires : tie.Need-put-cells-requires
+put-cells-requires c κs =
+    let n = c .before .before .before .before .before .before .before .before .args .n in
+    rw (inputs c) ((omega (arith, upFrom-length 0 n), omega (arith, upFrom-length 0 n), omega arith, omega (arith, upFrom-at 0 n 0 (omega arith))), omega arith)
+
+same-length : tie.Need-same-length
+same-length c = search needs
+
+same-length-2 : tie.Need-same-length-2
+same-length-2 c = search needs
+
+returns : tie.Need-returns
+returns c =
+    let a = c .before .before .before .before .before .before .before .before .before .before .before .args in
+    c .before .before .put-cells .ensures .0 ∙ ap (λ (w : List ℕ). putGates (now (a .out)) 3 (cells w (a .lows) (a .highs) (a .n))) (inputs (c .before .before .before))
+
+pub put-input-cells-spec : {M : Type 1} → statement M
+put-input-cells-spec =
+    tie.close
+    (tie.spec
+    put-wires-requires
+    slice-reshare-prefix-put-cells
+    slice-aggregate-put-cells
+    put-cells-requires
+    same-length
+    same-length-2
+    returns)
