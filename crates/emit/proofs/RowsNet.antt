@@ -19,6 +19,8 @@ use Rattle.wiring.specs.Rows.{Rows}
 use Rattle.wiring.proofs.Claims.{rows-gates, rows-outs}
 use Rattle.emit.specs.Put.{putGates}
 use Rattle.emit.specs.Rows.{Wiring}
+use Rattle.emit.specs.Lent.{Lent}
+use Rattle.emit.proofs.Accepted.{rows-lent}
 use Rattle.emit.proofs.Puts.{words-length, net-put}
 
 module _ (inst m : ℕ) (idx wh : List ℕ) (W : Wiring inst m idx wh) where
@@ -49,11 +51,24 @@ module _ (inst m : ℕ) (idx wh : List ℕ) (W : Wiring inst m idx wh) where
         net-put (rowsNet chain inst idx wh m) out o₁ o₂ o₃ next g m (3 + 4 * g) inputs-are eg (sym net-outs) (ap (λ (k : ℕ). 3 + 4 * k) eg) room e₁
         (e₂ ∙ ap (putGates o₁ 3) gates-are) (e₃ ∙ ap (sets o₂ (3 + 4 * g)) (ew ∙ outs-are))
 
+  -- for judging room: header, g gates, an output a bit
+  pub net-words : (g : ℕ) → g ≡ length (rowsNet chain inst idx wh m .gates) → length (words (rowsNet chain inst idx wh m)) ≡ 3 + 4 * g + m
+  net-words g e = omega (arith, words-length (rowsNet chain inst idx wh m), net-outs)
+
   pub outs-room : (len g l : ℕ) → l ≡ m → g ≡ length (rowsNet chain inst idx wh m .gates) → length (words (rowsNet chain inst idx wh m)) ≤ len → 3 + 4 * g + l ≤ len
-  outs-room len g l el eg h = omega (arith, words-length (rowsNet chain inst idx wh m), net-outs)
+  outs-room len g l el eg h = omega (arith, net-words g eg)
 
 pub wiring-of : (inst m l : ℕ) (idx wh : List ℕ) → l ≡ m → Wiring inst m idx wh → Wiring inst l idx wh
 wiring-of inst m l idx wh e W = rw e W
+
+-- what a judge that answers Done tells
+pub lent-wiring : (inst m : ℕ) (idx wh : List ℕ) → Lent inst m idx wh → (inst ≡ 6 → ⊥) → Wiring inst m idx wh
+lent-wiring inst m idx wh l h = record {
+  low = l .least;
+  high = omega (arith, l .most, h);
+  few = l .few;
+  rows = record { indices = l .indices; whitening = rows-lent inst m idx wh l h; below = l .below; whiteBit = l .bits };
+}
 
 -- ---- the count in code
 pub count-is : (inst m n b : ℕ) (idx wh : List ℕ) → 1 ≤ inst → inst ≤ 5 → Rows inst m idx wh → n ≡ ones wh → b ≡ costOf inst .gates → n + m * b ≡ length (rowsNet chain inst idx wh m .gates)

@@ -10,6 +10,8 @@ use Rattle.meter.specs.Meter.{MeteredAs}
 use Rattle.glue.specs.Glue.{GluedAs}
 use Rattle.choice.specs.Choice.{Chosen}
 use Rattle.cipher.specs.Cipher.{Streamed, Ciphered}
+use Rattle.netlist.specs.Net.{Net}
+use Rattle.emit.specs.Emit.{Emitted}
 use Rattle.probe.specs.declared.Reply.{Reply}
 use Rattle.probe.specs.declared.Metering.{Metering}
 
@@ -53,4 +55,10 @@ pub record KeystreamReply (inst m : ℕ) (key idx wh out : List ℕ) (r : Reply)
 pub record CipherReply (inst m : ℕ) (key rec idx wh out : List ℕ) (r : Reply) (out′ : List ℕ) : Type 0 where
   pub answer : Answer
   pub outcome : Ciphered inst m key rec idx wh out answer out′
+  pub told : r ≡ replyOf answer
+
+-- a call of emission that was due this answer, of this netlist
+pub record EmitReply (due : Answer) (net : Net) (out : List ℕ) (r : Reply) (out′ : List ℕ) : Type 0 where
+  pub answer : Answer
+  pub outcome : Emitted due net out answer out′
   pub told : r ≡ replyOf answer

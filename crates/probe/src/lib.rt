@@ -4,7 +4,9 @@ use answer::Answer;
 ghost use mathlib.Core.Path.{_≡_};
 ghost use lib.ListN.{length};
 ghost use Rattle.netlist.specs.Check.{netAnswer};
-ghost use Rattle.probe.specs.Replies.{replyOf, EvaluateReply, MeterReply, GlueReply, ChooseReply, KeystreamReply, CipherReply};
+ghost use Rattle.cells.specs.Cells.{oneHotNet, thresholdNet};
+ghost use Rattle.emit.specs.Emit.{oneHotAnswer, thresholdAnswer, decipherNet, decipherAnswer};
+ghost use Rattle.probe.specs.Replies.{replyOf, EvaluateReply, MeterReply, GlueReply, ChooseReply, KeystreamReply, CipherReply, EmitReply};
 
 #[repr(C)]
 pub struct Reply {
@@ -139,4 +141,31 @@ pub extern "C" fn probe_decipher(
     ensures { λ r. ⌜ CipherReply instance m (now (key .entry)) (now («record» .entry)) (now (indices .entry)) (now (whitening .entry)) (now (result .entry)) r (now (result .exit)) ⌝ }
 {
     told(cipher::decipher(instance, m, key, record, indices, whitening, result))
+}
+
+#[no_mangle]
+pub extern "C" fn probe_emit_one_hot(n: u32, result: &mut [u32]) -> Reply
+    ensures { λ r. ⌜ EmitReply (oneHotAnswer n (length (now (result .entry)))) (oneHotNet n) (now (result .entry)) r (now (result .exit)) ⌝ }
+{
+    told(emit::emit_one_hot(n, result))
+}
+
+#[no_mangle]
+pub extern "C" fn probe_emit_threshold(d: u32, n: u32, result: &mut [u32]) -> Reply
+    ensures { λ r. ⌜ EmitReply (thresholdAnswer d n (length (now (result .entry)))) (thresholdNet d n) (now (result .entry)) r (now (result .exit)) ⌝ }
+{
+    told(emit::emit_threshold(d, n, result))
+}
+
+#[no_mangle]
+pub extern "C" fn probe_emit_decipher(
+    instance: u32,
+    m: u32,
+    indices: &[u32],
+    whitening: &[u8],
+    result: &mut [u32],
+) -> Reply
+    ensures { λ r. ⌜ EmitReply (decipherAnswer instance m (now (indices .entry)) (now (whitening .entry)) (length (now (result .entry)))) (decipherNet instance m (now (indices .entry)) (now (whitening .entry))) (now (result .entry)) r (now (result .exit)) ⌝ }
+{
+    told(emit::emit_decipher(instance, m, indices, whitening, result))
 }
