@@ -2,3 +2,4 @@ pub mod Judging
 pub mod Rows
 pub mod Cipher
 pub mod Lent
+pub mod Apart

@@ -1,38 +1,35 @@
 // Instance 6: Kreyvium's keystream over a key and an IV lent bit by bit.
 ghost use mathlib.Core.Path.{_≡_};
-ghost use Prim.Native.Nat.{ℕ, _+_, _≤_};
+ghost use Prim.Native.Nat.{ℕ, _+_, _<_, _≤_};
 ghost use lib.ListN.{length, getD, take, drop};
 ghost use Rattle.kreyvium.specs.Words.{packed, tops};
 ghost use Rattle.kreyvium.specs.Kreyvium.{streamOf};
+ghost use Rattle.cipher.specs.Apart.{apart};
 
-// One bit of a list as a number; then two, four and eight from a place on, the first bit lowest. Two halves are
-// packed side by side, so that no sum waits for all that came before.
+// One bit of a list as a number.
 fn one(s: &[u8], at: usize) -> u64
-    requires { ⌜ (at + 1 ≤ length (now s)) × ((i : ℕ) → getD (now s) i 0 ≤ 1) ⌝ }
-    ensures { λ r. ⌜ r ≡ packed (take 1 (drop at (now (s .entry)))) ⌝ }
+    requires { ⌜ (at < length (now s)) × ((i : ℕ) → getD (now s) i 0 ≤ 1) ⌝ }
+    ensures { λ r. ⌜ (r ≡ getD (now (s .entry)) at 0) × (r ≤ 1) ⌝ }
 {
     s[at] as u64
 }
 
-fn two(s: &[u8], at: usize) -> u64
-    requires { ⌜ (at + 2 ≤ length (now s)) × ((i : ℕ) → getD (now s) i 0 ≤ 1) ⌝ }
-    ensures { λ r. ⌜ r ≡ packed (take 2 (drop at (now (s .entry)))) ⌝ }
-{
-    one(s, at) + one(s, at + 1) * 2
-}
-
+// Four bits from a place on, eight places apart: as the bytes stand, so that they are read at once.
 fn four(s: &[u8], at: usize) -> u64
     requires { ⌜ (at + 4 ≤ length (now s)) × ((i : ℕ) → getD (now s) i 0 ≤ 1) ⌝ }
-    ensures { λ r. ⌜ r ≡ packed (take 4 (drop at (now (s .entry)))) ⌝ }
+    ensures { λ r. ⌜ (r ≡ apart (now (s .entry)) at) × (r ≤ 16843009) ⌝ }
 {
-    two(s, at) + two(s, at + 2) * 4
+    one(s, at) + one(s, at + 1) * 256 + one(s, at + 2) * 65536 + one(s, at + 3) * 16777216
 }
 
+// Eight bits from a place on, the first lowest. Bits k and k + 4 stand side by side in byte k; the factor has a one
+// at places 0, 7, 14 and 21, and takes byte k to place 21 + k. No two bits meet.
 fn eight(s: &[u8], at: usize) -> u64
     requires { ⌜ (at + 8 ≤ length (now s)) × ((i : ℕ) → getD (now s) i 0 ≤ 1) ⌝ }
     ensures { λ r. ⌜ r ≡ packed (take 8 (drop at (now (s .entry)))) ⌝ }
 {
-    four(s, at) + four(s, at + 4) * 16
+    let y = four(s, at) + four(s, at + 4) * 16;
+    ((y * 2113665) >> 21) % 256
 }
 
 // 64 bits, eight at a time.

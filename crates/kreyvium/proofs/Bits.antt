@@ -125,6 +125,18 @@ bit-and a b i = rw (and-shr a b i) (and-odd (a / 2 ^ i) (b / 2 ^ i))
 pub odd-sum : (x y : ℕ) → (x % 2 + y) % 2 ≡ (x + y) % 2
 odd-sum x y = omega arith
 
+-- the first of a sum, known by its parity
+pub odd-first : (x s y : ℕ) → x ≡ s % 2 → (x + y) % 2 ≡ (s + y) % 2
+odd-first x s y e = ap (λ (z : ℕ). (z + y) % 2) e ∙ odd-sum s y
+
+-- and both of two
+pub odd-both : (x y s t : ℕ) → x ≡ s % 2 → y ≡ t % 2 → (x + y) % 2 ≡ (s + t) % 2
+odd-both x y s t e f =
+    odd-first x s y e ∙ turned s y ∙ odd-first y t s f ∙ turned t s
+  where
+    turned : (a b : ℕ) → (a + b) % 2 ≡ (b + a) % 2
+    turned a b = omega arith
+
 -- ---- the first bits of a block
 pub length-tops : (n z : ℕ) → length (tops n z) ≡ n
 unfolding tops

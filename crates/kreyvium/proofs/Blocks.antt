@@ -9,6 +9,7 @@ use Rattle.kreyvium.specs.declared.Entry.{Entry}
 use Rattle.kreyvium.specs.Kreyvium.{Registers, k0, v0, outOf, t1, t2, t3, push, moved, roundOf, rounds, stream}
 use Rattle.kreyvium.specs.Words.{bit, tops, reg, stateOf}
 use Rattle.kreyvium.specs.Early.{early, Right}
+use Rattle.kreyvium.proofs.Bits.{odd-first}
 use Rattle.kreyvium.proofs.Streams.{registers-eq, rounds-last, stream-last}
 use Rattle.kreyvium.proofs.Windows.{leaves, later-now, got, got-none, got-more, got-first, got-all, got-tap}
 
@@ -28,6 +29,57 @@ sum-two hx hy hp hq hz = cc
 pub sum-three : {x x′ y y′ k k′ p p′ q q′ z z′ : ℕ} → x ≡ x′ → y ≡ y′ → k ≡ k′ → p ≡ p′ → q ≡ q′ → z ≡ z′
     → (x + y + k + p * q + z) % 2 ≡ (x′ + y′ + k′ + p′ * q′ + z′) % 2
 sum-three hx hy hk hp hq hz = cc
+
+-- ---- and where the first two are there as one
+lead : (x s a b c : ℕ) → x ≡ s % 2 → (x + a + b + c) % 2 ≡ (s + a + b + c) % 2
+lead x s a b c e = grouped x ∙ odd-first x s (a + b + c) e ∙ sym (grouped s)
+  where
+    regroup : (y a b c : ℕ) → y + a + b + c ≡ y + (a + b + c)
+    regroup y a b c = omega arith
+
+    grouped : (y : ℕ) → (y + a + b + c) % 2 ≡ (y + (a + b + c)) % 2
+    grouped y = ap (λ (n : ℕ). n % 2) (regroup y a b c)
+
+pub pairs-out : {x y z k k′ : ℕ} (s s′ t t′ u u′ : ℕ) → x ≡ (s + s′) % 2 → y ≡ (t + t′) % 2 → z ≡ (u + u′) % 2 → k ≡ k′
+    → (x + y + z + k) % 2 ≡ (s + s′ + t + t′ + u + u′ + k′) % 2
+pairs-out {x} {y} {z} {k} {k′} s s′ t t′ u u′ e f g h =
+    ap (λ (n : ℕ). (x + y + z + n) % 2) h
+    ∙ lead x (s + s′) y z k′ e
+    ∙ turned (s + s′) y z
+    ∙ lead y (t + t′) z (s + s′) k′ f
+    ∙ turned (t + t′) z (s + s′)
+    ∙ lead z (u + u′) (s + s′) (t + t′) k′ g
+    ∙ ap (λ (n : ℕ). n % 2) (regroup s s′ t t′ u u′ k′)
+  where
+    sums : (a b c : ℕ) → a + b + c ≡ b + c + a
+    sums a b c = omega arith
+
+    turned : (a b c : ℕ) → (a + b + c + k′) % 2 ≡ (b + c + a + k′) % 2
+    turned a b c = ap (λ (n : ℕ). (n + k′) % 2) (sums a b c)
+
+    regroup : (s s′ t t′ u u′ l : ℕ) → u + u′ + (s + s′) + (t + t′) + l ≡ s + s′ + t + t′ + u + u′ + l
+    regroup s s′ t t′ u u′ l = omega arith
+
+pub pair-one : {x p p′ q q′ z z′ v v′ : ℕ} (s s′ : ℕ) → x ≡ (s + s′) % 2 → p ≡ p′ → q ≡ q′ → z ≡ z′ → v ≡ v′
+    → (x + p * q + z + v) % 2 ≡ (s + s′ + p′ * q′ + z′ + v′) % 2
+pair-one {x} {p} {p′} {q} {q′} {z} {z′} {v} {v′} s s′ e hp hq hz hv =
+    let m : (x + p * q + z + v) % 2 ≡ (x + p′ * q′ + z′ + v′) % 2 = cc in
+    m ∙ lead x (s + s′) (p′ * q′) z′ v′ e
+
+pub pair-two : {x p p′ q q′ z z′ : ℕ} (s s′ : ℕ) → x ≡ (s + s′) % 2 → p ≡ p′ → q ≡ q′ → z ≡ z′
+    → (x + p * q + z) % 2 ≡ (s + s′ + p′ * q′ + z′) % 2
+pair-two {x} {p} {p′} {q} {q′} {z} {z′} s s′ e hp hq hz =
+    let m : (x + p * q + z) % 2 ≡ (x + p′ * q′ + z′) % 2 = cc in
+    m ∙ odd-rest x (p′ * q′) z′ ∙ odd-first x (s + s′) (p′ * q′ + z′) e ∙ sym (odd-rest (s + s′) (p′ * q′) z′)
+  where
+    odd-rest : (a b c : ℕ) → (a + b + c) % 2 ≡ (a + (b + c)) % 2
+    odd-rest a b c = ap (λ (n : ℕ). n % 2) (omega arith)
+
+pub pair-three : {x k k′ p p′ q q′ z z′ : ℕ} (s s′ : ℕ) → x ≡ (s + s′) % 2 → k ≡ k′ → p ≡ p′ → q ≡ q′ → z ≡ z′
+    → (x + k + p * q + z) % 2 ≡ (s + s′ + k′ + p′ * q′ + z′) % 2
+pair-three {x} {k} {k′} {p} {p′} {q} {q′} {z} {z′} s s′ e hk hp hq hz =
+    let m : (x + k + p * q + z) % 2 ≡ (x + k′ + p′ * q′ + z′) % 2 = cc in
+    m ∙ lead x (s + s′) k′ (p′ * q′) z′ e
 
 -- ---- a round reads nothing below place 63
 record Same (r s : Registers ℕ) : Type 0 where

@@ -23,14 +23,15 @@ rounds-last zero s = refl
 rounds-last (suc n) s = rounds-last n (roundOf s)
 
 -- blocks of 64 rounds
-pub blocks-none : (s : Registers ℕ) → s ≡ rounds (64 * 0) s
+-- two blocks a turn
+pub blocks-none : (s : Registers ℕ) → s ≡ rounds (128 * 0) s
 unfolding rounds
 blocks-none s = refl
 
-pub blocks-more : (i : ℕ) (s : Registers ℕ) → rounds 64 (rounds (64 * i) s) ≡ rounds (64 * (i + 1)) s
+pub blocks-more : (i : ℕ) (s : Registers ℕ) → rounds 64 (rounds 64 (rounds (128 * i) s)) ≡ rounds (128 * (i + 1)) s
 blocks-more i s =
-    let e : 64 * i + 64 ≡ 64 * (i + 1) = omega arith in
-    rounds-add (64 * i) 64 s ∙ ap (λ (n : ℕ). rounds n s) e
+    let e : 128 * i + 64 + 64 ≡ 128 * (i + 1) = omega arith in
+    ap (rounds 64) (rounds-add (128 * i) 64 s) ∙ rounds-add (128 * i + 64) 64 s ∙ ap (λ (n : ℕ). rounds n s) e
 
 -- ---- the outputs of n rounds
 pub stream-last : (n : ℕ) (s : Registers ℕ) → stream (suc n) s ≡ stream n s ++ (outOf (rounds n s) ∷ [])

@@ -4,7 +4,7 @@ use mathlib.Core.List.{List, [], _∷_, _++_, append-assoc}
 use Prim.Native.Nat.{ℕ, zero, suc, _+_, _*_, _-_, _/_, _%_, _^_, _≤_, _<_}
 use native.Mathlib.Nat.{mul-mod-left, add-zero, add-comm}
 use native.Mathlib.Omega.{arith}
-use lib.Bits.{bitOr, or-shifted-r}
+use lib.Bits.{bitOr, bitXor, or-shifted-r, xor-comm, xor-shifted}
 use lib.ListN.{length, take, drop, getD, replicate, length-append, length-drop}
 use lib.Pow.{mod-pow-add, shl-shr, shr-lt}
 use lib.Seq.{take-append-le, drop-append-le, take-append-add, drop-append-add, take-all, getD-take, getD-drop, getD-append-add, take-take, take-add, drop-cons, drop-length, length-take-le}
@@ -12,17 +12,27 @@ use Rattle.kreyvium.specs.declared.Words.{Words}
 use Rattle.kreyvium.specs.Kreyvium.{push}
 use Rattle.kreyvium.specs.Words.{bits, bit, reg}
 use Rattle.kreyvium.specs.Early.{later}
-use Rattle.kreyvium.proofs.Bits.{length-bits, bits-low, bits-join, bits-take, bits-drop, getD-bits}
+use Rattle.kreyvium.proofs.Bits.{length-bits, bits-low, bits-join, bits-take, bits-drop, getD-bits, bit-xor, odd-both}
 
 -- ---- a window of two words
-either : (lo hi o w : ℕ) → lo < 2 ^ (w + o) → bitOr (lo / 2 ^ o) (hi * 2 ^ w % 2 ^ (o + w)) ≡ (hi % 2 ^ o) * 2 ^ w + lo / 2 ^ o
-either lo hi o w h =
-    ap (bitOr (lo / 2 ^ o))
-    (mod-pow-add (hi * 2 ^ w) o w
+upper : (hi o w : ℕ) → hi * 2 ^ w % 2 ^ (o + w) ≡ (hi % 2 ^ o) * 2 ^ w
+upper hi o w =
+    mod-pow-add (hi * 2 ^ w) o w
     ∙ ap (λ (x : ℕ). (x % 2 ^ o) * 2 ^ w + hi * 2 ^ w % 2 ^ w) (shl-shr hi w)
     ∙ ap (λ (x : ℕ). (hi % 2 ^ o) * 2 ^ w + x) (mul-mod-left hi (2 ^ w))
-    ∙ add-zero _)
-    ∙ or-shifted-r (hi % 2 ^ o) w (lo / 2 ^ o) (shr-lt w o h)
+    ∙ add-zero _
+
+either : (lo hi o w : ℕ) → lo < 2 ^ (w + o) → bitOr (lo / 2 ^ o) (hi * 2 ^ w % 2 ^ (o + w)) ≡ (hi % 2 ^ o) * 2 ^ w + lo / 2 ^ o
+either lo hi o w h = ap (bitOr (lo / 2 ^ o)) (upper hi o w) ∙ or-shifted-r (hi % 2 ^ o) w (lo / 2 ^ o) (shr-lt w o h)
+
+-- nothing stands in both, so that they may be added as well
+added : (lo hi o w : ℕ) → lo < 2 ^ (w + o)
+    → bitXor (lo / 2 ^ o) (hi * 2 ^ w % 2 ^ (o + w)) ≡ bitOr (lo / 2 ^ o) (hi * 2 ^ w % 2 ^ (o + w))
+added lo hi o w h =
+    ap (bitXor (lo / 2 ^ o)) (upper hi o w)
+    ∙ xor-comm (lo / 2 ^ o) ((hi % 2 ^ o) * 2 ^ w)
+    ∙ xor-shifted (hi % 2 ^ o) w (lo / 2 ^ o) (shr-lt w o h)
+    ∙ sym (either lo hi o w h)
 
 joined : (lo hi o w m : ℕ) → lo < 2 ^ (o + w) → o ≤ m
     → bits (o + w) (bitOr (lo / 2 ^ o) (hi * 2 ^ w % 2 ^ (o + w))) ≡ take (o + w) (drop o (bits (o + w) lo ++ bits m hi))
@@ -61,6 +71,46 @@ window-bits w o h p =
     e (λ a. joined lo hi o m 64 a (omega arith)) h
     ∙ ap (λ (l : List ℕ). take 64 (drop o l)) (sym (reg-all w))
 
+-- a bit of a window
+window-at : (r o i : ℕ) (w : Words) → bits 64 r ≡ take 64 (drop o (reg 128 w)) → i < 64 → bit r i ≡ getD (drop o (reg 128 w)) i 0
+window-at r o i w e k =
+    sym (getD-bits 64 r i k) ∙ ap (λ (l : List ℕ). getD l i 0) e ∙ getD-take 64 (drop o (reg 128 w)) i 0 k
+
+-- the same of what lo and hi give to it
+parts-at : (w : Words) (o i : ℕ) → w .lo < 2 ^ 64 → o < 64 → i < 64
+    → (bit (w .lo / 2 ^ o) i + bit (w .hi * 2 ^ (64 - o) % 2 ^ 64) i) % 2 ≡ getD (drop o (reg 128 w)) i 0
+parts-at w o i h p k =
+    let lo = w .lo in
+    let hi = w .hi in
+    let m = 64 - o in
+    let e : o + m ≡ 64 = omega arith in
+    let f : m + o ≡ 64 = omega arith in
+    let x : bitXor (lo / 2 ^ o) (hi * 2 ^ m % 2 ^ 64) ≡ bitOr (lo / 2 ^ o) (hi * 2 ^ m % 2 ^ 64) =
+    subst (λ (n : ℕ). bitXor (lo / 2 ^ o) (hi * 2 ^ m % 2 ^ n) ≡ bitOr (lo / 2 ^ o) (hi * 2 ^ m % 2 ^ n)) e (added lo hi o m (rw f h)) in
+    sym (bit-xor (lo / 2 ^ o) (hi * 2 ^ m % 2 ^ 64) i)
+    ∙ ap (λ (y : ℕ). bit y i) x
+    ∙ window-at _ o i w (window-bits w o h p) k
+
+pub windows-at : (w : Words) (o p i : ℕ) → w .lo < 2 ^ 64 → o < 64 → p < 64 → i < 64
+    → bit (bitXor (bitXor (w .lo / 2 ^ o) (w .lo / 2 ^ p)) (bitXor (w .hi * 2 ^ (64 - o) % 2 ^ 64) (w .hi * 2 ^ (64 - p) % 2 ^ 64))) i
+    ≡ (getD (drop o (reg 128 w)) i 0 + getD (drop p (reg 128 w)) i 0) % 2
+windows-at w o p i h q r k =
+    let a = w .lo / 2 ^ o in
+    let b = w .lo / 2 ^ p in
+    let c = w .hi * 2 ^ (64 - o) % 2 ^ 64 in
+    let d = w .hi * 2 ^ (64 - p) % 2 ^ 64 in
+    four-sums (bit a i) (bit b i) (bit c i) (bit d i) (bit-xor (bitXor a b) (bitXor c d) i) (bit-xor a b i) (bit-xor c d i) (parts-at w o i h q k) (parts-at w p i h r k)
+  where
+    regroup : (a b c d : ℕ) → a + b + (c + d) ≡ a + c + (b + d)
+    regroup a b c d = omega arith
+
+    four-sums : {x y z g f : ℕ} (a b c d : ℕ) → x ≡ (y + z) % 2 → y ≡ (a + b) % 2 → z ≡ (c + d) % 2 → (a + c) % 2 ≡ g → (b + d) % 2 ≡ f → x ≡ (g + f) % 2
+    four-sums {y = y} {z = z} {g = g} {f = f} a b c d e1 e2 e3 e4 e5 =
+        e1
+        ∙ odd-both y z (a + b) (c + d) e2 e3
+        ∙ ap (λ (n : ℕ). n % 2) (regroup a b c d)
+        ∙ sym (odd-both g f (a + c) (b + d) (sym e4) (sym e5))
+
 -- ---- registers
 pub length-reg : (n : ℕ) (w : Words) → n ≤ 128 → length (reg n w) ≡ n
 unfolding reg
@@ -81,17 +131,18 @@ later-now p r h =
     ap (λ (j : ℕ). getD (later 63 r) j 0) e ∙ later-at 63 (p - 63) r ∙ ap (λ (j : ℕ). getD r j 0) (sym e)
 
 -- what a window from place o on shows, to the round of place i: what will stand at place 63 + o
-pub seen : (r o p n i : ℕ) (w : Words) → bits 64 r ≡ take 64 (drop o (reg 128 w)) → p ≡ 63 + o → o + 64 ≤ n → n ≤ 128 → i < 64
-    → bit r i ≡ getD (later i (reg n w)) p 0
-seen r o p n i w e q h g k =
-    sym (getD-bits 64 r i k)
-    ∙ ap (λ (l : List ℕ). getD l i 0) e
-    ∙ getD-take 64 (drop o (reg 128 w)) i 0 k
-    ∙ getD-drop o (reg 128 w) i 0
+pub shown : (o p n i : ℕ) (w : Words) → p ≡ 63 + o → o + 64 ≤ n → n ≤ 128 → i < 64
+    → getD (drop o (reg 128 w)) i 0 ≡ getD (later i (reg n w)) p 0
+shown o p n i w q h g k =
+    getD-drop o (reg 128 w) i 0
     ∙ ap (λ (j : ℕ). getD (reg 128 w) j 0) (add-comm o i)
     ∙ sym (reg-at n (i + o) w (omega arith) g)
     ∙ sym (later-at i o (reg n w))
     ∙ ap (λ (j : ℕ). getD (later i (reg n w)) j 0) (sym q)
+
+pub seen : (r o p n i : ℕ) (w : Words) → bits 64 r ≡ take 64 (drop o (reg 128 w)) → p ≡ 63 + o → o + 64 ≤ n → n ≤ 128 → i < 64
+    → bit r i ≡ getD (later i (reg n w)) p 0
+seen r o p n i w e q h g k = window-at r o i w e k ∙ shown o p n i w q h g k
 
 -- the bit that leaves K* or IV*
 pub leaves : (i : ℕ) (w : Words) → i < 64 → getD (later i (reg 128 w)) 127 0 ≡ bit (w .hi) i

@@ -5,8 +5,8 @@
 // its register or above, so what 64 rounds read is in the registers before the first of them.
 ghost use mathlib.Core.Path.{_≡_};
 ghost use mathlib.Core.List.{_++_};
-ghost use Prim.Native.Nat.{ℕ, _<_, _≤_};
-ghost use lib.ListN.{take, drop};
+ghost use Prim.Native.Nat.{ℕ, _+_, _%_, _<_, _≤_};
+ghost use lib.ListN.{take, drop, getD};
 ghost use Rattle.kreyvium.specs.Kreyvium.{loaded, sA, sB, sC, outOf, t1, t2, t3, push, roundOf, rounds, stream, streamOf};
 ghost use Rattle.kreyvium.specs.Words.{bits, bit, tops, reg, stateOf};
 ghost use Rattle.kreyvium.specs.Early.{early, Right};
@@ -61,6 +61,15 @@ impl Words {
         ensures { λ r. ⌜ bits 64 r ≡ take 64 (drop o (reg 128 self)) ⌝ }
     {
         (self.lo >> o) | (self.hi << (64 - o))
+    }
+
+    // Two such windows added: first what lo has of both, then what hi has. A window by itself is one instruction
+    // of a kind that a processor starts one at a time; the shifts here leave it free for other windows.
+    fn windows(self, o: u64, p: u64) -> u64
+        requires { ⌜ (0 < o) × (o < 64) × (0 < p) × (p < 64) ⌝ }
+        ensures { λ r. ⌜ ((i : ℕ) → i < 64 → bit r i ≡ (getD (drop o (reg 128 self)) i 0 + getD (drop p (reg 128 self)) i 0) % 2) ⌝ }
+    {
+        ((self.lo >> o) ^ (self.lo >> p)) ^ ((self.hi << (64 - o)) ^ (self.hi << (64 - p)))
     }
 
     // Each bit moves one place up, and the bit at place 63 of x enters.
@@ -121,18 +130,40 @@ impl State {
         c.window(n - 241)
     }
 
+    // Two taps of a register added.
+    fn taps_a(self, n: u64, m: u64) -> u64
+        requires { ⌜ (64 < n) × (n ≤ 93) × (64 < m) × (m ≤ 93) ⌝ }
+        ensures { λ r. ⌜ ((i : ℕ) → i < 64 → bit r i ≡ (sA 0 (early self i) n + sA 0 (early self i) m) % 2) ⌝ }
+    {
+        let s = self.s;
+        let a = s.a;
+        a.windows(n - 64, m - 64)
+    }
+
+    fn taps_b(self, n: u64, m: u64) -> u64
+        requires { ⌜ (157 < n) × (n ≤ 177) × (157 < m) × (m ≤ 177) ⌝ }
+        ensures { λ r. ⌜ ((i : ℕ) → i < 64 → bit r i ≡ (sB 0 (early self i) n + sB 0 (early self i) m) % 2) ⌝ }
+    {
+        let s = self.s;
+        let b = s.b;
+        b.windows(n - 157, m - 157)
+    }
+
+    fn taps_c(self, n: u64, m: u64) -> u64
+        requires { ⌜ (241 < n) × (n ≤ 288) × (241 < m) × (m ≤ 288) ⌝ }
+        ensures { λ r. ⌜ ((i : ℕ) → i < 64 → bit r i ≡ (sC 0 (early self i) n + sC 0 (early self i) m) % 2) ⌝ }
+    {
+        let s = self.s;
+        let c = s.c;
+        c.windows(n - 241, m - 241)
+    }
+
     // t1 + t2 + t3 in each of the next 64 rounds. K*0 will be K*0..K*63 of now, which is k.hi.
     fn word_out(self) -> u64
         ensures { λ r. ⌜ ((i : ℕ) → i < 64 → bit r i ≡ outOf (early self i)) ⌝ }
     {
         let k = self.k;
-        self.tap_a(66)
-            ^ self.tap_a(93)
-            ^ self.tap_b(162)
-            ^ self.tap_b(177)
-            ^ self.tap_c(243)
-            ^ self.tap_c(288)
-            ^ k.hi
+        self.taps_a(66, 93) ^ self.taps_b(162, 177) ^ self.taps_c(243, 288) ^ k.hi
     }
 
     // t1 with what it gains; IV*0 is v.hi likewise.
@@ -140,14 +171,14 @@ impl State {
         ensures { λ r. ⌜ ((i : ℕ) → i < 64 → bit r i ≡ t1 (early self i)) ⌝ }
     {
         let v = self.v;
-        self.tap_a(66) ^ self.tap_a(93) ^ (self.tap_a(91) & self.tap_a(92)) ^ self.tap_b(171) ^ v.hi
+        self.taps_a(66, 93) ^ (self.tap_a(91) & self.tap_a(92)) ^ self.tap_b(171) ^ v.hi
     }
 
     // t2 with what it gains.
     fn word_two(self) -> u64
         ensures { λ r. ⌜ ((i : ℕ) → i < 64 → bit r i ≡ t2 (early self i)) ⌝ }
     {
-        self.tap_b(162) ^ self.tap_b(177) ^ (self.tap_b(175) & self.tap_b(176)) ^ self.tap_c(264)
+        self.taps_b(162, 177) ^ (self.tap_b(175) & self.tap_b(176)) ^ self.tap_c(264)
     }
 
     // t3 with what it gains.
@@ -155,11 +186,7 @@ impl State {
         ensures { λ r. ⌜ ((i : ℕ) → i < 64 → bit r i ≡ t3 (early self i)) ⌝ }
     {
         let k = self.k;
-        self.tap_c(243)
-            ^ self.tap_c(288)
-            ^ k.hi
-            ^ (self.tap_c(286) & self.tap_c(287))
-            ^ self.tap_a(69)
+        self.taps_c(243, 288) ^ k.hi ^ (self.tap_c(286) & self.tap_c(287)) ^ self.tap_a(69)
     }
 
     fn entry(self) -> Entry
@@ -244,15 +271,18 @@ impl State {
         Block { z: e.z, next: next }
     }
 
-    // The 1,152 rounds before the first output bit: 18 times 64.
+    // The 1,152 rounds before the first output bit: 18 times 64, two of them a turn, after which each word is where
+    // it was.
     pub fn warmed(self) -> State
         ensures { λ r. ⌜ stateOf r ≡ rounds 1152 (stateOf self) ⌝ }
     {
         let mut s = self;
         let mut i: usize = 0;
-        while i < 18 {
+        while i < 9 {
             let b = s.rounds64();
-            s = b.next;
+            let t = b.next;
+            let d = t.rounds64();
+            s = d.next;
             i += 1;
         }
         s

@@ -1,5 +1,4 @@
 use mathlib.Core.Path.{_≡_, refl, sym, ap, _∙_}
-use native.Mathlib.Omega.{arith}
 use Prim.Native.Nat.{ℕ}
 use mathlib.Core.List.{List}
 use lib.ListN.{length}
@@ -38,25 +37,22 @@ returns c =
 sizes-of-requires : tie.Need-sizes-of-requires
 sizes-of-requires c κs = search needs
 
-slice-aggregate-put-row : tie.Need-slice-aggregate-put-row
-slice-aggregate-put-row c = search needs
-
-put-row-requires : tie.Need-put-row-requires
-put-row-requires c κs =
-    let d = c .before .before in
+put-requires : tie.Need-put-requires
+put-requires c κs =
+    let d = c .before in
     let l = lent _ _ _ (accepted (d .before)) (d .sizes-of .ensures) in
-    (l .0, omega arith, l .1, l .2)
+    (l .0, l .1, l .2)
 
 same-length : tie.Need-same-length
 same-length c = search needs
 
 returns-2 : tie.Need-returns-2
 returns-2 c =
-    let d = c .before .before .before .before .before .before in
+    let d = c .before .before .before .before in
     let e = accepted (d .before) in
     record {
       answered = sym (d .before .enum-told .given .1) ∙ d .before .before .before .judge .ensures;
-      written = c .before .before .before .put-row .ensures ∙ ap (λ (t : List ℕ). over t (now (d .before .before .before .before .before .before .args .row))) (row-of _ _ _ e (d .sizes-of .ensures)) ∙ made _ _ refl;
+      written = c .before .before .put .ensures ∙ ap (λ (t : List ℕ). over t (now (d .before .before .before .before .before .before .args .row))) (row-of _ _ _ e (d .sizes-of .ensures)) ∙ made _ _ refl;
     }
 
 pub choose-spec : {M : Type 1} → statement M
@@ -68,7 +64,6 @@ choose-spec =
     enum-told-2
     returns
     sizes-of-requires
-    slice-aggregate-put-row
-    put-row-requires
+    put-requires
     same-length
     returns-2)

@@ -15,16 +15,19 @@ abbrev μ-loop : tie.MeasureT-loop
 μ-loop wires row₀ count i₀ row i = count - i
 
 loop-holds : tie.Need-loop-holds Inv-loop μ-loop
-loop-holds c = (search needs, copy-none (c .args .wires .now) _, search needs)
+loop-holds c = (search needs, copy-none (c .before .before .args .wires .now) _, search needs)
+
+mul-wide : tie.Need-mul-wide Inv-loop μ-loop
+mul-wide c = search needs
+
+shared-slice-read-wide : tie.Need-shared-slice-read-wide Inv-loop μ-loop
+shared-slice-read-wide c = search needs
+
+wide-requires : tie.Need-wide-requires Inv-loop μ-loop
+wide-requires c κs = search needs
 
 mul-row : tie.Need-mul-row Inv-loop μ-loop
 mul-row c = search needs
-
-shared-slice-read-row : tie.Need-shared-slice-read-row Inv-loop μ-loop
-shared-slice-read-row c = search needs
-
-mul-row-2 : tie.Need-mul-row-2 Inv-loop μ-loop
-mul-row-2 c = search needs
 
 slice-write-row : tie.Need-slice-write-row Inv-loop μ-loop
 slice-write-row c = search needs
@@ -37,9 +40,9 @@ loop-less c = search needs
 
 loop-again : tie.Need-loop-again Inv-loop μ-loop
 loop-again c =
-    let l = c .before .before .loop in
-    let a = c .before .before .before .args in
-    (search needs, rw (l .inv .1) (copy-more (a .wires .now) (a .row .now) (l .i) (omega arith) (omega arith)), search needs)
+    let l = c .before .before .before .loop in
+    let a = c .before .before .before .before .before .before .args in
+    (search needs, rw (l .inv .1, c .wide .ensures) (copy-more (a .wires .now) (a .row .now) (l .i) (omega arith) (omega arith)), search needs)
 
 same-length : tie.Need-same-length Inv-loop μ-loop
 same-length c = search needs
@@ -54,9 +57,10 @@ copy-spec =
     Inv-loop
     μ-loop
     loop-holds
+    mul-wide
+    shared-slice-read-wide
+    wide-requires
     mul-row
-    shared-slice-read-row
-    mul-row-2
     slice-write-row
     add-i
     loop-less

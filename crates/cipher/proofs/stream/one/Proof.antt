@@ -1,6 +1,5 @@
+use mathlib.Core.Path.{refl}
 use native.Mathlib.Omega.{arith}
-use denote.Ref.{now}
-use Rattle.cipher.proofs.Halves.{part-one}
 use borrow.Author.Needs.{needs}
 use Rattle.cipher.proofs.stream.one.Statement.{statement}
 use Rattle.cipher.proofs.stream.one.Tie as tie
@@ -12,7 +11,7 @@ cast-result : tie.Need-cast-result
 cast-result c = omega (arith, c .before .pre .1 (c .before .args .at))
 
 returns : tie.Need-returns
-returns c = part-one (now (c .before .args .s)) (c .before .args .at) (search needs)
+returns c = (refl, c .before .pre .1 (c .before .args .at))
 
 pub one-spec : {M : Type 1} → statement M
 one-spec = tie.close (tie.spec shared-slice-read-result cast-result returns)
