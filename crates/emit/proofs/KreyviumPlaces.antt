@@ -1,7 +1,7 @@
 -- The closed forms are the registers as the rounds move them.
 use mathlib.Core.Path.{_≡_, refl, ap, sym, _∙_}
 use mathlib.Core.List.{List, [], _∷_, _++_, map}
-use Prim.Native.Nat.{ℕ, zero, suc, _+_, _-_, _*_, _%_, _/_, _≤_, _<_}
+use Prim.Native.Nat.{ℕ, zero, suc, _+_, _-_, _*_, _%_, _≤_, _<_}
 use native.Mathlib.Omega.{arith}
 use lib.ListN.{length, getD, drop, replicate, length-drop, length-map, length-replicate, getD-replicate, List·getD-append}
 use lib.Seq.{getD-take, getD-drop, getD-append-add}
@@ -69,14 +69,6 @@ turned-at l h (suc n) zero q =
 turned-at l h (suc n) (suc j) q =
     let e : (j + 127 * n) % 128 ≡ (suc j + 127 * suc n) % 128 = omega arith in
     getD-push _ (turned l n) (suc j) (omega (arith, turned-length l n)) ∙ turned-at l h n j (omega arith) ∙ ap (λ (i : ℕ). getD l i 0) e
-
-rest-of : (x k s : ℕ) → x ≡ 128 * k + s → s < 128 → x % 128 ≡ s
-rest-of x k s e h = omega arith
-
-turned-last : (l : List ℕ) → length l ≡ 128 → (n : ℕ) → getD (turned l n) 127 0 ≡ getD l (127 - n % 128) 0
-turned-last l h n =
-    turned-at l h n 127 (omega arith)
-    ∙ ap (λ (i : ℕ). getD l i 0) (rest-of (127 + 127 * n) (127 * (n / 128) + n % 128) (127 - n % 128) (omega arith) (omega arith))
 
 pub five-eq : {p p' q q' r r' s s' t t' : ℕ} → p ≡ p' → q ≡ q' → r ≡ r' → s ≡ s' → t ≡ t'
     → _≡_ {A = Five} (record { p = p; q = q; r = r; s = s; t = t }) (record { p = p'; q = q'; r = r'; s = s'; t = t' })
@@ -149,7 +141,7 @@ module _ (iv : List ℕ) (m : ℕ) where
     z : Sized (startWires iv m)
     z = start-sized iv m h
 
-    pub placeA : (n j : ℕ) → j < 93 → wireA m n j ≡ getD (registersAt iv m n .a) j 0
+    placeA : (n j : ℕ) → j < 93 → wireA m n j ≡ getD (registersAt iv m n .a) j 0
     placeA n j q =
         let l = startWires iv m .a in
         let f : ℕ → ℕ = λ i. tailAt m i + 9 in
@@ -157,7 +149,7 @@ module _ (iv : List ℕ) (m : ℕ) where
         (λ p. sym (ap (λ (r : List ℕ). getD r j 0) (regA n) ∙ reg-new f l n j (omega (arith, z .a)) p ∙ a-new m n j _ p refl))
         (λ p. sym (ap (λ (r : List ℕ). getD r j 0) (regA n) ∙ reg-old f l n j (omega (arith, z .a)) p ∙ startA (j - n) (omega arith) ∙ a-old m n j p))
 
-    pub placeB : (n j : ℕ) → j < 84 → wireB iv m n j ≡ getD (registersAt iv m n .b) j 0
+    placeB : (n j : ℕ) → j < 84 → wireB iv m n j ≡ getD (registersAt iv m n .b) j 0
     placeB n j q =
         let l = startWires iv m .b in
         let f : ℕ → ℕ = λ i. tailAt m i + 3 in
@@ -165,7 +157,7 @@ module _ (iv : List ℕ) (m : ℕ) where
         (λ p. sym (ap (λ (r : List ℕ). getD r j 0) (regB n) ∙ reg-new f l n j (omega (arith, z .b)) p ∙ b-new iv m n j _ p refl))
         (λ p. sym (ap (λ (r : List ℕ). getD r j 0) (regB n) ∙ reg-old f l n j (omega (arith, z .b)) p ∙ b-old iv m n j _ p (startB (j - n) (omega arith))))
 
-    pub placeC : (n j : ℕ) → j < 111 → wireC iv m n j ≡ getD (registersAt iv m n .c) j 0
+    placeC : (n j : ℕ) → j < 111 → wireC iv m n j ≡ getD (registersAt iv m n .c) j 0
     placeC n j q =
         let l = startWires iv m .c in
         let f : ℕ → ℕ = λ i. tailAt m i + 6 in
@@ -173,15 +165,15 @@ module _ (iv : List ℕ) (m : ℕ) where
         (λ p. sym (ap (λ (r : List ℕ). getD r j 0) (regC n) ∙ reg-new f l n j (omega (arith, z .c)) p ∙ c-new iv m n j _ p refl))
         (λ p. sym (ap (λ (r : List ℕ). getD r j 0) (regC n) ∙ reg-old f l n j (omega (arith, z .c)) p ∙ c-old iv m n j _ p (startsC (j - n) (omega arith))))
 
-    pub placeK : (n : ℕ) → 127 - n % 128 ≡ k0 0 (registersAt iv m n)
+    placeK : (n : ℕ) → (127 + 127 * n) % 128 ≡ k0 0 (registersAt iv m n)
     unfolding startWires loaded
-    placeK n = sym (ap (λ (r : List ℕ). getD r 127 0) (regK n) ∙ turned-last (upFrom 0 128) (upFrom-length 0 128) n ∙ upFrom-at 0 128 (127 - n % 128) (omega arith) ∙ omega arith)
+    placeK n = sym (ap (λ (r : List ℕ). getD r 127 0) (regK n) ∙ turned-at (upFrom 0 128) (upFrom-length 0 128) n 127 (omega arith) ∙ upFrom-at 0 128 ((127 + 127 * n) % 128) (omega arith) ∙ omega arith)
 
-    pub placeV : (n : ℕ) → constWire iv m (127 - n % 128) ≡ v0 0 (registersAt iv m n)
+    placeV : (n : ℕ) → constWire iv m ((127 + 127 * n) % 128) ≡ v0 0 (registersAt iv m n)
     unfolding startWires loaded
     placeV n =
         let l = map (bitOf (128 + m) (129 + m)) iv in
-        sym (ap (λ (r : List ℕ). getD r 127 0) (regV n) ∙ turned-last l (length-map iv (bitOf (128 + m) (129 + m)) ∙ h) n ∙ ivWire (127 - n % 128) (omega arith))
+        sym (ap (λ (r : List ℕ). getD r 127 0) (regV n) ∙ turned-at l (length-map iv (bitOf (128 + m) (129 + m)) ∙ h) n 127 (omega arith) ∙ ivWire ((127 + 127 * n) % 128) (omega arith))
 
     fivesA : (n : ℕ) → placesA m n ≡ fiveA (registersAt iv m n)
     fivesA n = five-eq (placeA n 65 (omega arith)) (placeA n 68 (omega arith)) (placeA n 90 (omega arith)) (placeA n 91 (omega arith)) (placeA n 92 (omega arith))
@@ -198,7 +190,7 @@ taps-eq p q r s t i = record { a = p i; b = q i; c = r i; k = s i; v = t i }
 
 -- what a round reads, by its places
 pub taps-are : (iv : List ℕ) (m n k v : ℕ) (a b c : Five) → length iv ≡ 128 → a ≡ placesA m n → b ≡ placesB iv m n → c ≡ placesC iv m n
-    → k ≡ 127 - n % 128 → v ≡ constWire iv m k → _≡_ {A = Taps} (record { a = a; b = b; c = c; k = k; v = v }) (tapsOf (registersAt iv m n))
+    → k ≡ (127 + 127 * n) % 128 → v ≡ constWire iv m k → _≡_ {A = Taps} (record { a = a; b = b; c = c; k = k; v = v }) (tapsOf (registersAt iv m n))
 taps-are iv m n k v a b c h ea eb ec ek ev =
     taps-eq (ea ∙ fivesA iv m h n) (eb ∙ fivesB iv m h n) (ec ∙ fivesC iv m h n) (ek ∙ placeK iv m h n) (ev ∙ ap (constWire iv m) ek ∙ placeV iv m h n)
 

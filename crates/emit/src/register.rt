@@ -11,7 +11,7 @@ use crate::put::ZERO;
 use crate::put::put_gate;
 use crate::put::put_header;
 ghost use mathlib.Core.Path.{_≡_};
-ghost use Prim.Native.Nat.{_+_, _-_, _*_, _%_, _≤_, _<_};
+ghost use Prim.Native.Nat.{_+_, _*_, _%_, _≤_, _<_};
 ghost use lib.ListN.{length};
 ghost use lib.Seq.{sets};
 ghost use Rattle.answer.specs.Fronts.{over};
@@ -145,11 +145,12 @@ fn five_c(iv: &[u8], m: u32, n: u32) -> Five
     }
 }
 
-// The bit of K and of IV that leaves K* and IV* in round n: 127, then 126, down to 0, and from 127 again.
+// The bit of K and of IV that leaves K* and IV* in round n: 127, and one less, modulo 128, in each further round.
 fn leaving(n: u32) -> u32
-    ensures { λ r. ⌜ r ≡ 127 - n % 128 ⌝ }
+    requires { ⌜ n < 1216 ⌝ }
+    ensures { λ r. ⌜ r ≡ (127 + 127 * n) % 128 ⌝ }
 {
-    127 - n % 128
+    (127 + 127 * n) % 128
 }
 
 // What one of the first 111 rounds reads.
