@@ -1,0 +1,5 @@
+pub mod Joined
+pub mod Written
+pub mod Found
+pub mod Judged
+pub mod Put
