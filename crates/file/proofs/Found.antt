@@ -13,11 +13,12 @@ use Rattle.answer.specs.declared.Answer.the-variants.{Done}
 use Rattle.answer.specs.Choose.{choose}
 use Rattle.answer.proofs.Rows.{first-done, then-done, refuse-done, each-at}
 use Rattle.netlist.specs.Words.{gatePlace, gatesOf, outputsOf}
+use Rattle.netlist.specs.Check.{countsAnswer}
 use Rattle.netlist.proofs.Accepted.{counts-done}
 use Rattle.file.specs.declared.form.Form.{Form}
 use Rattle.file.specs.Bytes.{little, wordAt, joined, Bytes}
-use Rattle.file.specs.File.{byteN, byteG, byteO, markOf, widthOf, wordsBytes, headBytes, gateBytes, outBytes, fileOf, inputsIn, gatesIn, outputsIn, begins, sizeAt, startOf, operandAt, fourIn, outWord, wordsIn, recordAnswer, gateRecord, outRecord, outsAnswer, recordsAnswer}
-use Rattle.file.specs.Steps.{headAnswer, Begun, Framed}
+use Rattle.file.specs.File.{byteN, byteG, byteO, markOf, widthOf, wordsBytes, headBytes, gateBytes, outBytes, fileOf, headSize, inputsIn, gatesIn, outputsIn, begins, sizeAt, startOf, operandAt, fourIn, outWord, wordsIn, recordAnswer, gateRecord, outRecord, outsAnswer, recordsAnswer}
+use Rattle.file.specs.Steps.{Begun, Headed, Framed}
 use Rattle.file.proofs.Joined.{joined-at, joined-in, joined-length, part, part-append, part-all, joined-part, little-word}
 use Rattle.file.proofs.Written.{width-most}
 
@@ -35,13 +36,17 @@ begun s p letter size d =
     let b = choose-false _ _ (a .1) in
     record { fits = leb-true _ _ (a .0); first = eqb-true _ _ (b .0); second = eqb-true _ _ (b .1) }
 
-pub framed : (form : Form) (s : List ℕ) → headAnswer form s ≡ Done → recordsAnswer form s ≡ Done → Framed form s
-unfolding headAnswer recordsAnswer gateRecord outRecord outsAnswer
+pub headed : (form : Form) (s : List ℕ) → recordAnswer s 0 (markOf form) headSize ≡ Done
+    → countsAnswer 1 (inputsIn s) (gatesIn s) (outputsIn s) ≡ Done → Headed form s
+headed form s h c = record { head = begun _ _ _ _ h; limits = counts-done 1 _ _ _ c }
+
+pub framed : (form : Form) (s : List ℕ) → Headed form s → recordsAnswer form s ≡ Done → Framed form s
+unfolding recordsAnswer gateRecord outRecord outsAnswer
 framed form s h r =
     let r1 = then-done _ _ r in
     record {
-      head = begun _ _ _ _ (first-done _ _ h);
-      limits = counts-done 1 _ _ _ (then-done _ _ h);
+      head = h .head;
+      limits = h .limits;
       gate = λ g l. begun _ _ _ _ (each-at _ _ (first-done _ _ r) g l);
       out = λ o l. begun _ _ _ _ (each-at _ _ (first-done _ _ r1) o l);
       rest = ltb-false _ _ (refuse-done _ _ _ _ (then-done _ _ r1));

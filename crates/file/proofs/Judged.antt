@@ -1,28 +1,28 @@
 -- Laws for the code that judges a file.
 use Prim.Native.Nat.{ℕ, zero, suc, _+_, _*_, _<_, _≤_}
-use mathlib.Core.Path.{_≡_, refl, sym, _∙_, ap}
-use mathlib.Core.Bool.{Bool, true, false, not}
+use mathlib.Core.Path.{_≡_, refl, sym, _∙_}
+use mathlib.Core.Bool.{Bool, true, false}
 use mathlib.Core.List.{List}
 use native.Mathlib.Omega.{arith}
 use native.Mathlib.Numerals.{add-one}
 use native.Mathlib.Nat.{add-zero, le-antisymm}
 use lib.ListN.{length, getD}
 use lib.Dec.{ltb}
-use borrow.Author.Tests.{lt-ltb, le-ltb, le-leb, lt-leb, ne-eqb}
+use borrow.Author.Tests.{ltb-false, lt-ltb, le-ltb, le-leb, lt-leb, ne-eqb}
 use Rattle.answer.specs.declared.Answer.{Answer}
 use Rattle.answer.specs.declared.Answer.the-variants.{Done, Refused}
-use Rattle.answer.specs.Answers.{_▹_, refuse, each}
+use Rattle.answer.specs.Answers.{refuse, each}
 use Rattle.answer.specs.Choose.{choose}
-use Rattle.answer.proofs.Rows.{first-done, stop, go, refuse-yes, refuse-not, each-all}
+use Rattle.answer.proofs.Rows.{first-done, then-done, both, stop, go, refuse-done, refuse-yes, refuse-not, each-all}
 use Rattle.netlist.specs.Words.{gatePlace}
 use Rattle.netlist.specs.Check.{wordsAnswer, gateAnswer, outputAnswer, wiresAnswer}
 use Rattle.file.specs.declared.form.Form.{Form}
 use Rattle.file.specs.declared.records.Walk.{Walk}
 use Rattle.file.specs.declared.wires.Quad.{Quad}
 use Rattle.file.specs.Bytes.{wordAt}
-use Rattle.file.specs.File.{byteN, byteG, byteO, markOf, widthOf, inputsIn, gatesIn, outputsIn, begins, sizeAt, startOf, operandAt, fourIn, wordsIn, recordAnswer, gateRecord, outRecord, outsAnswer, recordsAnswer, readAnswer, checkAnswer}
-use Rattle.file.specs.Steps.{headAnswer, bodyAnswer, gateWire, outWire, QuadOf, Walked, GatesThere, Begun, Framed}
-use Rattle.file.proofs.Found.{begun, framed, gate-word, output-word}
+use Rattle.file.specs.File.{byteN, byteG, byteO, widthOf, inputsIn, gatesIn, outputsIn, begins, sizeAt, startOf, operandAt, fourIn, wordsIn, recordAnswer, gateRecord, outRecord, outsAnswer, recordsAnswer, readAnswer, checkAnswer}
+use Rattle.file.specs.Steps.{gateWire, outWire, QuadOf, Walked, GatesThere, Framed}
+use Rattle.file.proofs.Found.{begun, headed, framed, gate-word, output-word}
 
 -- ---- a record
 
@@ -50,11 +50,6 @@ module _ (s : List ℕ) (p letter size : ℕ) where
   pub record-broken : {t : Bool} → t ≡ begins s p letter size → t ≡ false → Refused 12 1 p ≡ recordAnswer s p letter size
   unfolding recordAnswer refuse
   record-broken e h = rw (← e, h)
-
--- what an accepted header tells
-pub head-begun : (form : Form) (s : List ℕ) → headAnswer form s ≡ Done → Begun s 0 (markOf form) 14
-unfolding headAnswer
-head-begun form s h = begun _ _ _ _ (first-done _ _ h)
 
 pub size-is : (form : Form) (s : List ℕ) (p : ℕ) {k w : ℕ} → k ≡ getD s (p + 2) 0 → w ≡ widthOf form k → 3 + 4 * w ≡ sizeAt form s p
 unfolding sizeAt
@@ -177,39 +172,26 @@ module _ (form : Form) (s : List ℕ) {G : ℕ} (g : G ≡ gatesIn s) {w : Walk}
       let e = t .ends d in
       record { answer = rw (← g, ← o) (go (t .answer) d (rw (← e .0) h)); ends = λ k. (rw (← g) (e .0), e .1) }
 
--- rows may be grouped
-group : (a b c : Answer) → (a ▹ b) ▹ c ≡ a ▹ b ▹ c
-unfolding _▹_
-group Done b c = refl
-group (Refused n l p) b c = refl
+-- room for the words
+module _ (s : List ℕ) (n : ℕ) {G O : ℕ} (g : G ≡ gatesIn s) (o : O ≡ outputsIn s) where
+  pub short : n < gatePlace G + O → Refused 8 2 n ≡ refuse 8 2 n (ltb n (gatePlace (gatesIn s) + outputsIn s))
+  short h = rw (← g, ← o) (refuse-yes 8 2 n (lt-ltb _ _ h))
 
--- head and body are the check, and around room the reading
-pub check-parts : (form : Form) (s : List ℕ) → headAnswer form s ▹ bodyAnswer form s ≡ checkAnswer form s
-unfolding headAnswer bodyAnswer checkAnswer
-check-parts form s = group _ _ _
+  pub long : gatePlace G + O ≤ n → Done ≡ refuse 8 2 n (ltb n (gatePlace (gatesIn s) + outputsIn s))
+  long h = rw (← g, ← o) (sym (refuse-not 8 2 n (le-ltb _ _ h)))
 
-pub read-parts : (form : Form) (s : List ℕ) (n : ℕ) → headAnswer form s ▹ refuse 8 2 n (ltb n (gatePlace (gatesIn s) + outputsIn s)) ▹ bodyAnswer form s ≡ readAnswer form s n
-unfolding headAnswer bodyAnswer readAnswer
-read-parts form s n = group _ _ _
+-- ---- what is known where nothing was refused
 
-module _ (form : Form) (s : List ℕ) {r : Answer} (e : r ≡ headAnswer form s) where
-  pub check-stop : {x y z : ℕ} → r ≡ Refused x y z → r ≡ checkAnswer form s
-  check-stop d = stop _ e d ∙ check-parts form s
+pub check-framed : (form : Form) (s : List ℕ) → checkAnswer form s ≡ Done → Framed form s
+unfolding checkAnswer
+check-framed form s e =
+    let e1 = then-done _ _ e in
+    framed form s (headed form s (first-done _ _ e) (first-done _ _ e1)) (first-done _ _ (then-done _ _ e1))
 
-  pub check-go : {q : Answer} → r ≡ Done → q ≡ bodyAnswer form s → q ≡ checkAnswer form s
-  check-go d h = go e d h ∙ check-parts form s
-
-  module _ (n : ℕ) where
-    pub read-stop : {x y z : ℕ} → r ≡ Refused x y z → r ≡ readAnswer form s n
-    read-stop d = stop _ e d ∙ read-parts form s n
-
-    module _ {G O : ℕ} (d : r ≡ Done) (g : G ≡ gatesIn s) (o : O ≡ outputsIn s) where
-      pub read-short : n < gatePlace G + O → Refused 8 2 n ≡ readAnswer form s n
-      read-short h = go e d (stop _ (rw (← g, ← o) (refuse-yes 8 2 n (lt-ltb _ _ h))) refl) ∙ read-parts form s n
-
-      pub read-body : {q : Answer} → gatePlace G + O ≤ n → q ≡ bodyAnswer form s → q ≡ readAnswer form s n
-      read-body h q = go e d (rw (← g, ← o) (go refl (refuse-not 8 2 n (le-ltb _ _ h)) q)) ∙ read-parts form s n
-
-pub body-framed : (form : Form) (s : List ℕ) → headAnswer form s ≡ Done → bodyAnswer form s ≡ Done → Framed form s
-unfolding bodyAnswer
-body-framed form s h b = framed form s h (first-done _ _ b)
+-- reading is done where the check is, and there is room
+pub read-done : (form : Form) (s : List ℕ) (n : ℕ) → readAnswer form s n ≡ Done → (checkAnswer form s ≡ Done) × (gatePlace (gatesIn s) + outputsIn s ≤ n)
+unfolding readAnswer checkAnswer
+read-done form s n e =
+    let e1 = then-done _ _ e in
+    let e2 = then-done _ _ e1 in
+    (both (first-done _ _ e) (both (first-done _ _ e1) (then-done _ _ e2)), ltb-false _ _ (refuse-done _ _ _ _ (first-done _ _ e2)))

@@ -3,3 +3,5 @@ pub mod Written
 pub mod Found
 pub mod Judged
 pub mod Put
+pub mod Round
+pub mod Samples

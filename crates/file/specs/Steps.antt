@@ -8,17 +8,13 @@ use Rattle.answer.specs.declared.Answer.{Answer}
 use Rattle.answer.specs.declared.Answer.the-variants.{Done}
 use Rattle.answer.specs.Answers.{_▹_, refuse}
 use Rattle.netlist.specs.Words.{gatePlace}
-use Rattle.netlist.specs.Check.{gateLimit, wordsAnswer, countsAnswer, wiresAnswer}
+use Rattle.netlist.specs.Check.{gateLimit, wordsAnswer, wiresAnswer}
 use Rattle.netlist.specs.Sound.{Limits}
 use Rattle.file.specs.declared.form.Form.{Form}
 use Rattle.file.specs.declared.records.Walk.{Walk}
 use Rattle.file.specs.declared.wires.Quad.{Quad}
 use Rattle.file.specs.Bytes.{wordAt, joined}
-use Rattle.file.specs.File.{byteN, byteG, byteO, markOf, gateBytes, headSize, outSize, inputsIn, gatesIn, outputsIn, sizeAt, startOf, operandAt, wordsIn, recordAnswer, recordsAnswer}
-
--- header, counts
-unfoldable pub headAnswer : Form → List ℕ → Answer
-headAnswer form s = recordAnswer s 0 (markOf form) headSize ▹ countsAnswer 1 (inputsIn s) (gatesIn s) (outputsIn s)
+use Rattle.file.specs.File.{byteN, byteG, byteO, markOf, gateBytes, headSize, outSize, inputsIn, gatesIn, outputsIn, sizeAt, startOf, operandAt, wordsIn, recordsAnswer}
 
 -- records and rest, wires
 unfoldable pub bodyAnswer : Form → List ℕ → Answer
@@ -60,6 +56,11 @@ pub record Begun (s : List ℕ) (p letter size : ℕ) : Type 0 where
   pub fits : p + size ≤ length s
   pub first : getD s p 0 ≡ byteN
   pub second : getD s (p + 1) 0 ≡ letter
+
+-- what a file has whose header and counts are accepted
+pub record Headed (form : Form) (s : List ℕ) : Type 0 where
+  pub head : Begun s 0 (markOf form) headSize
+  pub limits : Limits (inputsIn s) (gatesIn s) (outputsIn s)
 
 -- what a file has whose records are whole
 pub record Framed (form : Form) (s : List ℕ) : Type 0 where

@@ -1,12 +1,14 @@
 // The netlist file, read, written and checked: document 01, "Netlist file". A file is judged header (12),
 // counts (9), room (8), records and rest (12), wires (9), and nothing is written before all is judged. The
 // lists are what is read or written, and the result.
-pub mod form;
 mod bytes;
+pub mod form;
+mod judge;
+mod read;
 mod records;
 mod wires;
-mod read;
 mod write;
+
 use crate::form::Form;
 use answer::Answer;
 ghost use mathlib.Core.Path.{_≡_};
@@ -30,5 +32,5 @@ pub fn write_file(net: &[u32], result: &mut [u8]) -> Answer
 pub fn check_file(source: &[u8]) -> Answer
     ensures { λ r. ⌜ r ≡ checkAnswer Form.Full (now (source .entry)) ⌝ }
 {
-    read::check_form(source, Form::Full)
+    judge::check_form(source, Form::Full)
 }

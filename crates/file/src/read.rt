@@ -1,4 +1,4 @@
-// A file judged, and its words read.
+// The words of a file that was judged, stored as a netlist.
 use crate::bytes::word_at;
 use crate::form::Form;
 use crate::form::HEAD_SIZE;
@@ -12,36 +12,12 @@ ghost use mathlib.Core.List.{[], _∷_};
 ghost use Prim.Native.Nat.{_+_, _*_, _≤_};
 ghost use lib.ListN.{length};
 ghost use lib.Seq.{sets};
-ghost use Rattle.answer.specs.declared.Answer.the-variants.{Done};
 ghost use Rattle.answer.specs.Fronts.{over};
 ghost use Rattle.netlist.specs.Words.{headerWords, gatePlace};
 ghost use Rattle.netlist.specs.Check.{gateLimit};
 ghost use Rattle.file.specs.Bytes.{joined};
-ghost use Rattle.file.specs.File.{outSize, gatesIn, outputsIn, startOf, fourIn, outWord, wordsIn, checkAnswer, ReadAs};
-ghost use Rattle.file.specs.Steps.{headAnswer, bodyAnswer, GatesThere, Framed};
-
-// Records and rest, wires.
-fn body(s: &[u8], form: Form) -> Answer
-    requires { ⌜ headAnswer form (now s) ≡ Done ⌝ }
-    ensures { λ r. ⌜ r ≡ bodyAnswer form (now (s .entry)) ⌝ }
-{
-    let w = crate::records::records(s, form);
-    let r = w.answer;
-    let Answer::Done = r else {
-        return r;
-    };
-    crate::wires::wires(s, form, w.at)
-}
-
-pub(crate) fn check_form(source: &[u8], form: Form) -> Answer
-    ensures { λ r. ⌜ r ≡ checkAnswer form (now (source .entry)) ⌝ }
-{
-    let r = crate::records::head(source, form);
-    let Answer::Done = r else {
-        return r;
-    };
-    body(source, form)
-}
+ghost use Rattle.file.specs.File.{outSize, gatesIn, outputsIn, startOf, fourIn, outWord, wordsIn, ReadAs};
+ghost use Rattle.file.specs.Steps.{GatesThere, Framed};
 
 fn put_counts(out: &mut [u32], inputs: u32, gates: u32, outputs: u32)
     requires { ⌜ headerWords ≤ length (now out) ⌝ }
@@ -109,24 +85,9 @@ fn read_words(s: &[u8], form: Form, out: &mut [u32])
 pub(crate) fn read_form(source: &[u8], form: Form, result: &mut [u32]) -> Answer
     ensures { λ r. ⌜ ReadAs form (now (source .entry)) (now (result .entry)) r (now (result .exit)) ⌝ }
 {
-    let r = crate::records::head(source, form);
+    let r = crate::judge::judge(source, form, result.len());
     let Answer::Done = r else {
         return r;
-    };
-    let gates = word_at(source, 6);
-    let outputs = word_at(source, 10);
-    let need = HEADER_WORDS + GATE_STRIDE * (gates as usize) + (outputs as usize);
-    let room = result.len();
-    if room < need {
-        return Answer::Refused {
-            number: answer::ROOM,
-            list: 2,
-            place: room,
-        };
-    }
-    let b = body(source, form);
-    let Answer::Done = b else {
-        return b;
     };
     read_words(source, form, result);
     Answer::Done

@@ -11,10 +11,9 @@ use answer::Answer;
 ghost use mathlib.Core.Path.{_≡_};
 ghost use Prim.Native.Nat.{_≤_};
 ghost use lib.ListN.{length};
-ghost use Rattle.answer.specs.declared.Answer.the-variants.{Done};
 ghost use Rattle.answer.specs.Answers.{each};
-ghost use Rattle.file.specs.File.{headSize, gatesIn, begins, sizeAt, startOf, recordAnswer, gateRecord, outsAnswer, recordsAnswer};
-ghost use Rattle.file.specs.Steps.{headAnswer, Walked};
+ghost use Rattle.file.specs.File.{markOf, headSize, gatesIn, begins, sizeAt, startOf, recordAnswer, gateRecord, outsAnswer, recordsAnswer};
+ghost use Rattle.file.specs.Steps.{Walked};
 
 // A walk over records: its answer, and if that is done where the walk ended.
 pub(crate) struct Walk {
@@ -53,15 +52,11 @@ fn record(s: &[u8], p: usize, letter: u8, size: usize) -> Answer
     }
 }
 
-// Header and counts.
-pub(crate) fn head(s: &[u8], form: Form) -> Answer
-    ensures { λ r. ⌜ r ≡ headAnswer form (now (s .entry)) ⌝ }
+// The header's record.
+pub(crate) fn header(s: &[u8], form: Form) -> Answer
+    ensures { λ r. ⌜ r ≡ recordAnswer (now (s .entry)) 0 (markOf form) headSize ⌝ }
 {
-    let r = record(s, 0, crate::form::mark_of(form), HEAD_SIZE);
-    let Answer::Done = r else {
-        return r;
-    };
-    netlist::check::counts(word_at(s, 2), word_at(s, 6), word_at(s, 10), 1)
+    record(s, 0, crate::form::mark_of(form), HEAD_SIZE)
 }
 
 // How many bytes the gate record at p takes; its kind may be cut off.
@@ -121,7 +116,7 @@ fn out_records(s: &[u8], from: usize, outputs: u32) -> Answer
 
 // Records and rest; the walk ends where the outputs' records begin.
 pub(crate) fn records(s: &[u8], form: Form) -> Walk
-    requires { ⌜ headAnswer form (now s) ≡ Done ⌝ }
+    requires { ⌜ headSize ≤ length (now s) ⌝ }
     ensures { λ r. ⌜ Walked (now (s .entry)) (recordsAnswer form (now (s .entry))) (startOf form (now (s .entry)) (gatesIn (now (s .entry)))) r ⌝ }
 {
     let gates = word_at(s, 6);

@@ -1,17 +1,16 @@
-use native.Mathlib.Omega.{arith}
 use borrow.Author.Needs.{needs}
-use Rattle.file.proofs.Judged.{head-begun, records-go, records-stop}
+use Rattle.file.proofs.Judged.{records-go, records-stop}
 use Rattle.file.proofs.records.records.Statement.{statement}
 use Rattle.file.proofs.records.records.Tie as tie
 
 word-at-requires : tie.Need-word-at-requires
-word-at-requires c κs = omega (arith, head-begun _ _ (c .before .pre) .fits)
+word-at-requires c κs = search needs
 
 word-at-requires-2 : tie.Need-word-at-requires-2
-word-at-requires-2 c κs = omega (arith, head-begun _ _ (c .before .before .pre) .fits)
+word-at-requires-2 c κs = search needs
 
 gate-records-requires : tie.Need-gate-records-requires
-gate-records-requires c κs = head-begun _ _ (c .before .before .before .pre) .fits
+gate-records-requires c κs = search needs
 
 enum-told : tie.Need-enum-told
 enum-told c = search needs

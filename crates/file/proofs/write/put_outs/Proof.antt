@@ -57,8 +57,11 @@ loop-again c =
     let w = c .before .before in
     let m = w .before .before .before .before in
     let l = m .before .before .before .loop in
-    let e = out-put _ _ _ _ _ (m .put-mark .ensures) (w .put-words .ensures) (m .before .before .before .before .before .before .pre .0) in
-    (search needs, outs-next _ _ _ _ (l .inv .1) e, omega (arith, w .put-words .kept .1 .1 .1 .0, m .put-mark .kept .0, l .inv .2))
+    let k = m .before .before .before .before .before .before .pre .0 in (
+      search needs,
+      outs-next _ _ _ _ (l .inv .1) (out-put _ _ _ _ _ (m .put-mark .ensures) (w .put-words .ensures) k),
+      omega (arith, w .put-words .kept .1 .1 .1 .0, m .put-mark .kept .0, l .inv .2),
+    )
 
 same-length : tie.Need-same-length Inv-loop μ-loop
 same-length c = search needs

@@ -3,11 +3,11 @@ use borrow.Author.Needs.{needs}
 use Rattle.answer.proofs.Rows.{go, stop}
 use Rattle.file.specs.Steps.{bodyAnswer}
 use Rattle.file.proofs.Found.{framed}
-use Rattle.file.proofs.read.body.Statement.{statement}
-use Rattle.file.proofs.read.body.Tie as tie
+use Rattle.file.proofs.judge.body.Statement.{statement}
+use Rattle.file.proofs.judge.body.Tie as tie
 
 records-requires : tie.Need-records-requires
-records-requires c κs = search needs
+records-requires c κs = c .before .pre .head .fits
 
 enum-told : tie.Need-enum-told
 enum-told c = search needs
@@ -30,5 +30,4 @@ unfolding bodyAnswer
 returns-2 c = go (c .before .before .before .records .ensures .answer) (c .before .enum-told .given .1) (c .wires .ensures)
 
 pub body-spec : {M : Type 1} → statement M
-body-spec =
-    tie.close (tie.spec records-requires enum-told enum-told-2 returns wires-requires returns-2)
+body-spec = tie.close (tie.spec records-requires enum-told enum-told-2 returns wires-requires returns-2)
