@@ -75,13 +75,13 @@ pub(crate) fn judge(s: &[u8], form: Form, room: usize) -> Answer
     let Answer::Done = h else {
         return h;
     };
-    let c = counts(s);
-    let e = enough(s, room);
-    let Answer::Done = c else {
-        return c;
+    let limits = counts(s);
+    let space = enough(s, room);
+    let Answer::Done = limits else {
+        return limits;
     };
-    let Answer::Done = e else {
-        return e;
+    let Answer::Done = space else {
+        return space;
     };
     body(s, form)
 }
