@@ -4,3 +4,4 @@ pub mod Sums
 pub mod Block
 pub mod Written
 pub mod Halves
+pub mod Spread

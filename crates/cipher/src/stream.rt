@@ -1,10 +1,11 @@
 // Instance 6: Kreyvium's keystream over a key and an IV lent bit by bit.
 ghost use mathlib.Core.Path.{_≡_};
-ghost use Prim.Native.Nat.{ℕ, _+_, _<_, _≤_};
+ghost use Prim.Native.Nat.{ℕ, _+_, _*_, _-_, _/_, _%_, _^_, _<_, _≤_};
 ghost use lib.ListN.{length, getD, take, drop};
-ghost use Rattle.kreyvium.specs.Words.{packed, tops};
+ghost use Rattle.answer.specs.Fronts.{over};
+ghost use Rattle.kreyvium.specs.Words.{packed, bit, tops};
 ghost use Rattle.kreyvium.specs.Kreyvium.{streamOf};
-ghost use Rattle.cipher.specs.Apart.{apart};
+ghost use Rattle.cipher.specs.Apart.{apart, fourSet};
 
 // One bit of a list as a number.
 fn one(s: &[u8], at: usize) -> u64
@@ -46,16 +47,59 @@ fn word(s: &[u8], from: usize) -> u64
     w
 }
 
-// The first bits of a block: the bit at place 63, at 62, and so on down.
-fn put_block(z: u64, out: &mut [u8])
+// Eight bits as eight bytes, the highest bit first. The first factor has a one at places 0, 9, .. 54 and takes bit
+// 7 - k to place 7 + 8 * k, for k below 7; no two bits meet. The lowest bit is put in by itself.
+fn spread(b: u64) -> u64
+    requires { ⌜ b < 256 ⌝ }
+    ensures { λ r. ⌜ ((k : ℕ) → k < 8 → r / 2 ^ (8 * k) % 256 ≡ bit b (7 - k)) ⌝ }
+{
+    (((b * 18049651735527937) >> 7) & 282578800148737) + (b % 2) * 72057594037927936
+}
+
+// Four bytes of a word at a place, the lowest first.
+fn put_four(x: u64, at: usize, out: &mut [u8])
+    requires { ⌜ at + 4 ≤ length (now out) ⌝ }
+    ensures { λ r. ⌜ now (out .exit) ≡ fourSet x at (now (out .entry)) ⌝ }
+{
+    out[at] = (x % 256) as u8;
+    out[at + 1] = ((x >> 8) % 256) as u8;
+    out[at + 2] = ((x >> 16) % 256) as u8;
+    out[at + 3] = ((x >> 24) % 256) as u8;
+}
+
+// The first bits of a block, eight at a time: the bit at place 63, at 62, and so on down. How many there are.
+fn put_eights(z: u64, out: &mut [u8]) -> usize
     requires { ⌜ length (now out) ≤ 64 ⌝ }
-    ensures { λ r. ⌜ now (out .exit) ≡ tops (length (now (out .entry))) z ⌝ }
+    ensures { λ r. ⌜ (now (out .exit) ≡ over (tops r z) (now (out .entry))) × (r ≤ length (now (out .entry))) ⌝ }
 {
     let mut i: usize = 0;
+    while i + 8 <= out.len() {
+        let x = spread((z >> (56 - i)) % 256);
+        put_four(x, i, out);
+        put_four(x >> 32, i + 4, out);
+        i += 8;
+    }
+    i
+}
+
+// The others, where so many stand there.
+fn put_rest(z: u64, from: usize, out: &mut [u8])
+    requires { ⌜ (length (now out) ≤ 64) × (from ≤ length (now out)) × (now out ≡ over (tops from z) (now out)) ⌝ }
+    ensures { λ r. ⌜ now (out .exit) ≡ tops (length (now (out .entry))) z ⌝ }
+{
+    let mut i: usize = from;
     while i < out.len() {
         out[i] = ((z >> (63 - i)) % 2) as u8;
         i += 1;
     }
+}
+
+fn put_block(z: u64, out: &mut [u8])
+    requires { ⌜ length (now out) ≤ 64 ⌝ }
+    ensures { λ r. ⌜ now (out .exit) ≡ tops (length (now (out .entry))) z ⌝ }
+{
+    let i = put_eights(z, out);
+    put_rest(z, i, out);
 }
 
 // The keystream's first bits, one for each place of out.
