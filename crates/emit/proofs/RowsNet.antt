@@ -19,8 +19,6 @@ use Rattle.wiring.specs.Rows.{Rows}
 use Rattle.wiring.proofs.Claims.{rows-gates, rows-outs}
 use Rattle.emit.specs.Put.{putGates}
 use Rattle.emit.specs.Rows.{Wiring}
-use Rattle.emit.specs.Lent.{Lent}
-use Rattle.emit.proofs.Accepted.{rows-lent}
 use Rattle.emit.proofs.Puts.{words-length, net-put}
 
 module _ (inst m : ℕ) (idx wh : List ℕ) (W : Wiring inst m idx wh) where
@@ -60,15 +58,6 @@ module _ (inst m : ℕ) (idx wh : List ℕ) (W : Wiring inst m idx wh) where
 
 pub wiring-of : (inst m l : ℕ) (idx wh : List ℕ) → l ≡ m → Wiring inst m idx wh → Wiring inst l idx wh
 wiring-of inst m l idx wh e W = rw e W
-
--- what a judge that answers Done tells
-pub lent-wiring : (inst m : ℕ) (idx wh : List ℕ) → Lent inst m idx wh → (inst ≡ 6 → ⊥) → Wiring inst m idx wh
-lent-wiring inst m idx wh l h = record {
-  low = l .least;
-  high = omega (arith, l .most, h);
-  few = l .few;
-  rows = record { indices = l .indices; whitening = rows-lent inst m idx wh l h; below = l .below; whiteBit = l .bits };
-}
 
 -- ---- the count in code
 pub count-is : (inst m n b : ℕ) (idx wh : List ℕ) → 1 ≤ inst → inst ≤ 5 → Rows inst m idx wh → n ≡ ones wh → b ≡ costOf inst .gates → n + m * b ≡ length (rowsNet chain inst idx wh m .gates)

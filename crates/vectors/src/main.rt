@@ -5,6 +5,7 @@
 // Documents: 000 (FLIP), 003 (Kreyvium), 01 (the rules). A list of bits is printed with commas; a key, an
 // IV and a keystream as bytes in hexadecimal, the low bit of each byte first.
 mod choice_lines;
+mod file_lines;
 mod filter_lines;
 mod kreyvium_lines;
 mod netlist_lines;
@@ -16,4 +17,5 @@ fn main() {
     filter_lines::print();
     netlist_lines::print();
     choice_lines::print();
+    file_lines::print();
 }

@@ -1,13 +1,9 @@
-// Document 01's cases of thresholds and one-hot netlists, by evaluating the netlists. Their words are
-// written out here from 01: "The printing program" shows 2 of 3, and "What is emitted" has the rule of the
-// others. Words: inputs, gates, outputs; kind, a, b, c of each gate; the output wires.
+// Document 01's cases of thresholds and one-hot netlists, by evaluating the netlists that are emitted; and
+// emitted netlists that 01 describes, gate by gate. Each list has just the words that its netlist takes.
 use crate::text::say;
 use crate::text::say_bits;
+use crate::text::say_number;
 use answer::Answer;
-
-const ZERO: u32 = 0;
-
-const ONE: u32 = 1;
 
 const NOT: u32 = 2;
 
@@ -17,45 +13,9 @@ const AND: u32 = 4;
 
 const MUX: u32 = 5;
 
-// 3 NOT 0, 4 MUX 1 0 3, 5 AND 0 1, 6 AND 4 2, 7 XOR 6 5, out 7
-const TWO_OF_THREE: [u32; 24] = [
-    3,
-    5,
-    1,
-    NOT,
-    0,
-    0,
-    0,
-    MUX,
-    1,
-    0,
-    3,
-    AND,
-    0,
-    1,
-    0,
-    AND,
-    4,
-    2,
-    0,
-    XOR,
-    6,
-    5,
-    0,
-    7,
-];
-
-// 3 AND 0 1, 4 AND 3 2, out 4
-const THREE_OF_THREE: [u32; 12] = [3, 2, 1, AND, 0, 1, 0, AND, 3, 2, 0, 4];
-
-// out 0: the input itself
-const ONE_OF_ONE: [u32; 4] = [1, 0, 1, 0];
-
-// 3 ZERO, out 3
-const FOUR_OF_THREE: [u32; 8] = [3, 1, 1, ZERO, 0, 0, 0, 3];
-
-// 5 XOR 0 1; 2 of 3 over wires 2, 3 and 4, with 6 NOT 2, 7 MUX 3 2 6, 8 AND 2 3, 9 AND 7 4, 10 XOR 9 8;
-// 11 XOR 5 10, out 11
+// No call emits this one: 5 XOR 0 1; 2 of 3 over wires 2, 3 and 4, with 6 NOT 2, 7 MUX 3 2 6, 8 AND 2 3,
+// 9 AND 7 4, 10 XOR 9 8; 11 XOR 5 10, out 11. Words: inputs, gates, outputs; kind, a, b, c of each gate; the
+// output wire.
 const XOR_AND_THRESHOLD: [u32; 32] = [
     5,
     7,
@@ -91,39 +51,6 @@ const XOR_AND_THRESHOLD: [u32; 32] = [
     11,
 ];
 
-// 2 NOT 0, 3 NOT 1, 4 AND 2 3, 5 MUX 1 0 2, 6 AND 0 1, out 4, 5, 6
-const ONE_HOT_OF_TWO: [u32; 26] = [
-    2,
-    5,
-    3,
-    NOT,
-    0,
-    0,
-    0,
-    NOT,
-    1,
-    0,
-    0,
-    AND,
-    2,
-    3,
-    0,
-    MUX,
-    1,
-    0,
-    2,
-    AND,
-    0,
-    1,
-    0,
-    4,
-    5,
-    6,
-];
-
-// 0 ONE, out 0
-const ONE_HOT_OF_NONE: [u32; 8] = [0, 1, 1, ONE, 0, 0, 0, 0];
-
 // What a netlist gives, printed: as many bits as its outputs.
 fn say_outputs(net: &[u32], inputs: &[u8]) {
     let mut values = [0u8; 12];
@@ -145,17 +72,122 @@ fn line(source: &[u8], net: &[u32], inputs: &[u8]) {
     say(b"\n");
 }
 
-pub fn print() {
-    line(b"01, Edges, threshold 2 of 3", &TWO_OF_THREE, &[0, 1, 1]);
-    line(b"01, Edges, threshold 2 of 3", &TWO_OF_THREE, &[1, 0, 0]);
-    line(b"01, Edges, threshold 3 of 3", &THREE_OF_THREE, &[1, 1, 1]);
-    line(b"01, Edges, threshold 1 of 1", &ONE_OF_ONE, &[1]);
-    line(b"01, Edges, threshold 4 of 3", &FOUR_OF_THREE, &[1, 1, 1]);
+fn threshold(source: &[u8], d: u32, n: u32, net: &mut [u32], inputs: &[u8]) {
+    let r = emit::emit_threshold(d, n, net);
+    let Answer::Done = r else {
+        say(b"refused\n");
+        return;
+    };
+    line(source, net, inputs);
+}
+
+fn one_hot(n: u32, net: &mut [u32], inputs: &[u8]) {
+    let r = emit::emit_one_hot(n, net);
+    let Answer::Done = r else {
+        say(b"refused\n");
+        return;
+    };
+    line(b"01, Edges, one-hot", net, inputs);
+}
+
+fn print_edges() {
+    let mut two = [0u32; 24];
+    threshold(b"01, Edges, threshold 2 of 3", 2, 3, &mut two, &[0, 1, 1]);
+    threshold(b"01, Edges, threshold 2 of 3", 2, 3, &mut two, &[1, 0, 0]);
+    let mut three = [0u32; 12];
+    threshold(b"01, Edges, threshold 3 of 3", 3, 3, &mut three, &[1, 1, 1]);
+    let mut one = [0u32; 4];
+    threshold(b"01, Edges, threshold 1 of 1", 1, 1, &mut one, &[1]);
+    let mut four = [0u32; 8];
+    threshold(b"01, Edges, threshold 4 of 3", 4, 3, &mut four, &[1, 1, 1]);
     line(
         b"01, Edges, XOR of 2 with 2 of 3",
         &XOR_AND_THRESHOLD,
         &[1, 0, 0, 1, 1],
     );
-    line(b"01, Edges, one-hot", &ONE_HOT_OF_TWO, &[1, 0]);
-    line(b"01, Edges, one-hot", &ONE_HOT_OF_NONE, &[]);
+    let mut pair = [0u32; 26];
+    one_hot(2, &mut pair, &[1, 0]);
+    let mut none = [0u32; 8];
+    one_hot(0, &mut none, &[]);
+}
+
+fn say_kind(kind: u32) {
+    match kind {
+        0 => say(b"ZERO"),
+        1 => say(b"ONE"),
+        2 => say(b"NOT"),
+        3 => say(b"XOR"),
+        4 => say(b"AND"),
+        _ => say(b"MUX"),
+    }
+}
+
+fn say_operand(net: &[u32], at: usize, used: bool) {
+    if used {
+        say(b" ");
+        say_number(answer::word_at(net, at) as usize);
+    }
+}
+
+// A gate's wire, kind and used operands.
+fn say_gate(net: &[u32], gate: u32) {
+    let start = 3 + 4 * (gate as usize);
+    let kind = answer::word_at(net, start);
+    let uses = netlist::gate::uses(netlist::gate::decoded(kind, 0, 0, 0));
+    say(b" ");
+    say_number(answer::word_at(net, 0) as usize + gate as usize);
+    say(b" ");
+    say_kind(kind);
+    say_operand(net, start + 1, 0 < uses);
+    say_operand(net, start + 2, 1 < uses);
+    say_operand(net, start + 3, 2 < uses);
+    say(b";");
+}
+
+// Gates from one on, up to another.
+fn say_gates(net: &[u32], from: u32, to: u32) {
+    let mut g = from;
+    while g < to {
+        say_gate(net, g);
+        g += 1;
+    }
+}
+
+fn print_two_of_three() {
+    let mut net = [0u32; 24];
+    let r = emit::emit_threshold(2, 3, &mut net);
+    let Answer::Done = r else {
+        say(b"refused\n");
+        return;
+    };
+    say(b"01, The printing program, threshold 2 of 3:");
+    say_gates(&net, 0, 5);
+    say(b" out ");
+    say_number(answer::word_at(&net, 23) as usize);
+    say(b"\n");
+}
+
+// ZERO, ONE and the first round; the last round, which gives the bit.
+fn print_kreyvium() {
+    let mut net = [0u32; 64592];
+    let r = emit::emit_decipher(6, 1, &[], &[0; 128], &mut net);
+    let Answer::Done = r else {
+        say(b"refused\n");
+        return;
+    };
+    say(b"01, What is emitted, Kreyvium of 1 bit, IV all zero: ");
+    say_number(answer::word_at(&net, 1) as usize);
+    say(b" gates, from");
+    say_gates(&net, 0, 16);
+    say(b" to");
+    say_gates(&net, 16130, 16147);
+    say(b" out ");
+    say_number(answer::word_at(&net, 64591) as usize);
+    say(b"\n");
+}
+
+pub fn print() {
+    print_edges();
+    print_two_of_three();
+    print_kreyvium();
 }

@@ -31,6 +31,12 @@ pub fn say_digit(n: u8) {
     say(&one);
 }
 
+// A byte in hexadecimal.
+fn say_byte(n: u8) {
+    say_digit(n / 16);
+    say_digit(n % 16);
+}
+
 // The first n bits of a list, with commas.
 pub fn say_bits(bits: &[u8], n: usize) {
     if n == 0 {
@@ -43,6 +49,25 @@ pub fn say_bits(bits: &[u8], n: usize) {
             say(b",");
         }
         say_digit(answer::byte_at(bits, i));
+        i += 1;
+    }
+}
+
+// All bytes of a list in hexadecimal, and all words in decimal, each after a space.
+pub fn say_bytes(bytes: &[u8]) {
+    let mut i: usize = 0;
+    while i < bytes.len() {
+        say(b" ");
+        say_byte(bytes[i]);
+        i += 1;
+    }
+}
+
+pub fn say_words(words: &[u32]) {
+    let mut i: usize = 0;
+    while i < words.len() {
+        say(b" ");
+        say_number(words[i] as usize);
         i += 1;
     }
 }
