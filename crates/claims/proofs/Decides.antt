@@ -15,6 +15,8 @@ use Rattle.glue.specs.Glue.{GluedAs}
 use Rattle.choice.specs.Choice.{Chosen}
 use Rattle.cipher.specs.Cipher.{Streamed, Ciphered}
 use Rattle.cells.specs.Cells.{oneHotNet, thresholdNet}
+use Rattle.file.specs.declared.form.Form.{Form}
+use Rattle.file.specs.File.{checkAnswer, ReadAs, WrittenAs}
 use Rattle.emit.specs.Emit.{oneHotAnswer, thresholdAnswer, decipherAnswer, decipherNet, Emitted}
 
 -- two lists that were left by equal answers
@@ -87,3 +89,17 @@ pub emit-decipher-decides : (inst m : ℕ) (idx wh out : List ℕ) {r s : Answer
     → Emitted (decipherAnswer inst m idx wh (length out)) (decipherNet inst m idx wh) out r v
     → Emitted (decipherAnswer inst m idx wh (length out)) (decipherNet inst m idx wh) out s w → (r ≡ s) × (v ≡ w)
 emit-decipher-decides inst m idx wh out x y = emitted-decides out x y
+
+-- the netlist file, in any form
+pub read-decides : (form : Form) (source out : List ℕ) {r s : Answer} {v w : List ℕ} → ReadAs form source out r v → ReadAs form source out s w → (r ≡ s) × (v ≡ w)
+read-decides form source out x y =
+    let e = x .answered ∙ sym (y .answered) in
+    (e, same-left _ _ e (x .written) (y .written))
+
+pub write-decides : (form : Form) (net out : List ℕ) {r s : Answer} {v w : List ℕ} → WrittenAs form net out r v → WrittenAs form net out s w → (r ≡ s) × (v ≡ w)
+write-decides form net out x y =
+    let e = x .answered ∙ sym (y .answered) in
+    (e, same-left _ _ e (x .written) (y .written))
+
+pub check-file-decides : (form : Form) (source : List ℕ) {r s : Answer} → r ≡ checkAnswer form source → s ≡ checkAnswer form source → r ≡ s
+check-file-decides form source p q = p ∙ sym q
