@@ -12,6 +12,8 @@ use Rattle.choice.specs.Choice.{Chosen}
 use Rattle.cipher.specs.Cipher.{Streamed, Ciphered}
 use Rattle.netlist.specs.Net.{Net}
 use Rattle.emit.specs.Emit.{Emitted}
+use Rattle.file.specs.declared.form.Form.the-variants.{Full}
+use Rattle.file.specs.File.{ReadAs, WrittenAs}
 use Rattle.probe.specs.declared.Reply.{Reply}
 use Rattle.probe.specs.declared.Metering.{Metering}
 
@@ -61,4 +63,14 @@ pub record CipherReply (inst m : ℕ) (key rec idx wh out : List ℕ) (r : Reply
 pub record EmitReply (due : Answer) (net : Net) (out : List ℕ) (r : Reply) (out′ : List ℕ) : Type 0 where
   pub answer : Answer
   pub outcome : Emitted due net out answer out′
+  pub told : r ≡ replyOf answer
+
+pub record ReadReply (source out : List ℕ) (r : Reply) (out′ : List ℕ) : Type 0 where
+  pub answer : Answer
+  pub outcome : ReadAs Full source out answer out′
+  pub told : r ≡ replyOf answer
+
+pub record WriteReply (net out : List ℕ) (r : Reply) (out′ : List ℕ) : Type 0 where
+  pub answer : Answer
+  pub outcome : WrittenAs Full net out answer out′
   pub told : r ≡ replyOf answer

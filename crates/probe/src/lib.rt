@@ -6,7 +6,9 @@ ghost use lib.ListN.{length};
 ghost use Rattle.netlist.specs.Check.{netAnswer};
 ghost use Rattle.cells.specs.Cells.{oneHotNet, thresholdNet};
 ghost use Rattle.emit.specs.Emit.{oneHotAnswer, thresholdAnswer, decipherNet, decipherAnswer};
-ghost use Rattle.probe.specs.Replies.{replyOf, EvaluateReply, MeterReply, GlueReply, ChooseReply, KeystreamReply, CipherReply, EmitReply};
+ghost use Rattle.file.specs.File.{checkAnswer};
+ghost use Rattle.file.specs.declared.form.Form.the-variants.{Full};
+ghost use Rattle.probe.specs.Replies.{replyOf, EvaluateReply, MeterReply, GlueReply, ChooseReply, KeystreamReply, CipherReply, EmitReply, ReadReply, WriteReply};
 
 #[repr(C)]
 pub struct Reply {
@@ -168,4 +170,25 @@ pub extern "C" fn probe_emit_decipher(
     ensures { λ r. ⌜ EmitReply (decipherAnswer instance m (now (indices .entry)) (now (whitening .entry)) (length (now (result .entry)))) (decipherNet instance m (now (indices .entry)) (now (whitening .entry))) (now (result .entry)) r (now (result .exit)) ⌝ }
 {
     told(emit::emit_decipher(instance, m, indices, whitening, result))
+}
+
+#[no_mangle]
+pub extern "C" fn probe_read_file(source: &[u8], result: &mut [u32]) -> Reply
+    ensures { λ r. ⌜ ReadReply (now (source .entry)) (now (result .entry)) r (now (result .exit)) ⌝ }
+{
+    told(file::read_file(source, result))
+}
+
+#[no_mangle]
+pub extern "C" fn probe_write_file(net: &[u32], result: &mut [u8]) -> Reply
+    ensures { λ r. ⌜ WriteReply (now (net .entry)) (now (result .entry)) r (now (result .exit)) ⌝ }
+{
+    told(file::write_file(net, result))
+}
+
+#[no_mangle]
+pub extern "C" fn probe_check_file(source: &[u8]) -> Reply
+    ensures { λ r. ⌜ r ≡ replyOf (checkAnswer Full (now (source .entry))) ⌝ }
+{
+    told(file::check_file(source))
 }

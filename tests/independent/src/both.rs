@@ -1,6 +1,7 @@
-//! The netlist calls handed to both programs: each has the same lists, and the
-//! whole answer and every lent list are compared.
+//! The netlist and file calls handed to both programs: each has the same lists,
+//! and the whole answer and every lent list are compared.
 
+use crate::file::{self, GATE_BYTES, HEADER_BYTES, OUTPUT_BYTES};
 use crate::lent::{show, Lent};
 use crate::netlist::{self, Answer, Metering, HEADER};
 use crate::probe;
@@ -22,6 +23,16 @@ pub struct Metered {
 pub struct Glued {
     pub answer: Answer,
     pub out: Vec<u32>,
+}
+
+pub struct Read {
+    pub answer: Answer,
+    pub words: Vec<u32>,
+}
+
+pub struct Written {
+    pub answer: Answer,
+    pub bytes: Vec<u8>,
 }
 
 pub fn check(net: &[u32]) -> Answer {
@@ -171,4 +182,82 @@ pub fn metered(net: &[u32]) -> Metering {
     let metering = meter(net, &depths, &levels, &levels).metering;
     assert_eq!(metering.answer, Answer::DONE);
     metering
+}
+
+pub fn check_file(source: &[u8]) -> Answer {
+    let case = || format!("check of the file {}", show(source));
+    let mut lent = Lent::new(source);
+    let library = probe::check_file(lent.library());
+    let rust = file::check_file(lent.rust());
+    assert_eq!(library, rust, "library, rust; {}", case());
+    lent.settle(0, "bytes", &case);
+    rust
+}
+
+pub fn read_file(source: &[u8], result: &[u32]) -> Read {
+    let case = || {
+        format!(
+            "reading of the file {}, {} words of room",
+            show(source),
+            result.len()
+        )
+    };
+    let (mut source, mut result) = (Lent::new(source), Lent::new(result));
+    let library = probe::read_file(source.library(), result.library());
+    let rust = file::read_file(source.rust(), result.rust());
+    assert_eq!(library, rust, "library, rust; {}", case());
+    let written = match rust {
+        Answer::DONE => length(result.rust()),
+        _ => 0,
+    };
+    source.settle(0, "bytes", &case);
+    Read {
+        answer: rust,
+        words: result.settle(written, "result", &case),
+    }
+}
+
+pub fn write_file(net: &[u32], result: &[u8]) -> Written {
+    let case = || format!("writing of {}, {} bytes of room", show(net), result.len());
+    let (mut lent, mut result) = (Lent::new(net), Lent::new(result));
+    let library = probe::write_file(lent.library(), result.library());
+    let rust = file::write_file(lent.rust(), result.rust());
+    assert_eq!(library, rust, "library, rust; {}", case());
+    let written = match rust {
+        Answer::DONE => file_length(net),
+        _ => 0,
+    };
+    lent.settle(0, "words", &case);
+    Written {
+        answer: rust,
+        bytes: result.settle(written, "result", &case),
+    }
+}
+
+/// The length of the netlist that these words begin with.
+fn length(words: &[u32]) -> usize {
+    HEADER + 4 * words[1] as usize + words[2] as usize
+}
+
+/// The length of the file of a sound netlist.
+pub fn file_length(net: &[u32]) -> usize {
+    HEADER_BYTES + GATE_BYTES * net[1] as usize + OUTPUT_BYTES * net[2] as usize
+}
+
+/// The words in a file, where it is sound.
+pub fn words_of(source: &[u8]) -> Vec<u32> {
+    assert_eq!(check_file(source), Answer::DONE);
+    // No gate has fewer bytes than words, and no output.
+    let room = vec![7; source.len()];
+    let Read { answer, mut words } = read_file(source, &room);
+    assert_eq!(answer, Answer::DONE);
+    words.truncate(length(&words));
+    words
+}
+
+/// The file of a netlist, where it is sound.
+pub fn file_of(net: &[u32]) -> Vec<u8> {
+    let written = write_file(net, &vec![7; file_length(net)]);
+    assert_eq!(written.answer, Answer::DONE);
+    written.bytes
 }

@@ -3,14 +3,15 @@
 //!
 //! [`netlist`] holds the four netlist calls (check, evaluate, meter, glue),
 //! [`cipher`] the three cipher calls (keystream, encipher, decipher) over
-//! [`filter`] and [`kreyvium`], [`choice`] the choice of rows, and [`emission`]
-//! the emission of one-hot, threshold and deciphering netlists. They are
-//! written from the rules alone and share no line with the library under test.
-//! [`definitions`] holds the ciphers, the choice and the emitted netlists a
-//! second time, plain and slow. [`probe`] reaches the library through its C
-//! interface, and [`both`] hands a netlist call to both programs. [`cases`],
-//! [`cipher_cases`] and [`emission_cases`] make sound and damaged lists from the
-//! numbers of [`random`]; [`lent`] and [`tally`] compare and count.
+//! [`filter`] and [`kreyvium`], [`choice`] the choice of rows, [`emission`]
+//! the emission of one-hot, threshold and deciphering netlists, and [`file`]
+//! the netlist file. They are written from the rules alone and share no line
+//! with the library under test. [`definitions`] holds the ciphers, the choice,
+//! the emitted netlists and the file a second time, plain and slow. [`probe`]
+//! reaches the library through its C interface, and [`both`] hands a netlist or
+//! file call to both programs. [`cases`], [`cipher_cases`], [`emission_cases`]
+//! and [`file_cases`] make sound and damaged lists from the numbers of
+//! [`random`]; [`lent`] and [`tally`] compare and count.
 //!
 //! The tests hand both programs the same lists and compare the whole answer
 //! and every lent list; the program `bench` times both on the same lists.
@@ -23,6 +24,8 @@ pub mod cipher_cases;
 pub mod definitions;
 pub mod emission;
 pub mod emission_cases;
+pub mod file;
+pub mod file_cases;
 pub mod filter;
 pub mod kreyvium;
 pub mod lent;

@@ -87,10 +87,10 @@ const TRUTH: [u8; 6] = [
 ];
 
 /// A sound netlist, seen in its words.
-struct Netlist<'a> {
-    inputs: usize,
-    gates: &'a [[u32; 4]],
-    outputs: &'a [u32],
+pub(crate) struct Netlist<'a> {
+    pub(crate) inputs: usize,
+    pub(crate) gates: &'a [[u32; 4]],
+    pub(crate) outputs: &'a [u32],
 }
 
 impl<'a> Netlist<'a> {
@@ -132,7 +132,7 @@ impl<'a> Netlist<'a> {
     }
 
     /// The netlist lent as `list` of a call.
-    fn lent(words: &'a [u32], list: u32) -> Result<Self, Answer> {
+    pub(crate) fn lent(words: &'a [u32], list: u32) -> Result<Self, Answer> {
         Self::parse(words).map_err(|place| Answer::broken_netlist(list, place))
     }
 
@@ -143,7 +143,7 @@ impl<'a> Netlist<'a> {
 
 /// The first word at fault in the gate that gives `wire`.
 #[inline]
-fn gate_fault(&[kind, a, b, c]: &[u32; 4], wire: usize) -> Option<usize> {
+pub(crate) fn gate_fault(&[kind, a, b, c]: &[u32; 4], wire: usize) -> Option<usize> {
     let Some(&used) = ARITY.get(kind as usize) else {
         return Some(0);
     };

@@ -124,6 +124,22 @@ extern "C" {
         result: *mut u32,
         result_length: usize,
     ) -> RawReply;
+
+    fn probe_read_file(
+        source: *const u8,
+        source_length: usize,
+        result: *mut u32,
+        result_length: usize,
+    ) -> RawReply;
+
+    fn probe_write_file(
+        net: *const u32,
+        net_length: usize,
+        result: *mut u8,
+        result_length: usize,
+    ) -> RawReply;
+
+    fn probe_check_file(source: *const u8, source_length: usize) -> RawReply;
 }
 
 impl From<RawReply> for Answer {
@@ -332,4 +348,27 @@ pub fn emit_decipher(
         )
     }
     .into()
+}
+
+pub fn read_file(source: &[u8], result: &mut [u32]) -> Answer {
+    // SAFETY: as in `check`.
+    unsafe {
+        probe_read_file(
+            source.as_ptr(),
+            source.len(),
+            result.as_mut_ptr(),
+            result.len(),
+        )
+    }
+    .into()
+}
+
+pub fn write_file(net: &[u32], result: &mut [u8]) -> Answer {
+    // SAFETY: as in `check`.
+    unsafe { probe_write_file(net.as_ptr(), net.len(), result.as_mut_ptr(), result.len()) }.into()
+}
+
+pub fn check_file(source: &[u8]) -> Answer {
+    // SAFETY: as in `check`.
+    unsafe { probe_check_file(source.as_ptr(), source.len()) }.into()
 }

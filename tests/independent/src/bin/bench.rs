@@ -1,16 +1,20 @@
 //! Times the library and the Rust program on the same lists and prints
 //! nanoseconds and their ratio: for a gate of the netlist calls, for a cipher
-//! call or a choice, and for an emission or the whole path of a record to its
-//! score. It only reports: the exit status is always 0.
+//! call or a choice, for an emission or the whole path of a record to its
+//! score, and for the file calls. It only reports: the exit status is always 0.
+//!
+//! Names of parts (netlists, ciphers, emissions, files) as arguments: only
+//! these are timed.
 
 use independent::cases::{self, Shape};
 use independent::cipher::{self, Search, INSTANCES};
 use independent::cipher_cases::{self, Call};
 use independent::emission;
 use independent::emission_cases::{self, Emission};
+use independent::file_cases;
 use independent::netlist::{self, Answer, Metering, HEADER};
 use independent::random::{bits, Random};
-use independent::{choice, kreyvium, probe};
+use independent::{choice, file, kreyvium, probe};
 use std::hint::black_box;
 use std::time::Instant;
 
@@ -675,11 +679,99 @@ fn emissions(random: &mut Random) {
     table.print();
 }
 
+// ---- files ----
+
+/// The gates of a netlist whose file is timed.
+const FILE_GATES: usize = 262_144;
+
+/// Megabytes a second.
+fn rate(bytes: usize, nanoseconds: f64) -> f64 {
+    bytes as f64 * 1e3 / nanoseconds
+}
+
+fn files(random: &mut Random) {
+    println!(
+        "nanoseconds for a file call, files of {FILE_GATES} gates, median of {CALL_SAMPLES} \
+         samples; megabytes of the file a second"
+    );
+    println!();
+    println!("netlist  call           library         rust    ratio   library MB/s      rust MB/s");
+    let mut failed = 0;
+    for mixture in &MIXTURES {
+        let shape = Shape {
+            inputs: INPUTS,
+            gates: FILE_GATES,
+            outputs: OUTPUTS,
+            weights: mixture.weights,
+            reach: mixture.reach,
+        };
+        let file_cases::Reading { words, source, .. } = file_cases::sound(random, &shape);
+        let mut read = [(); 2].map(|()| vec![0; words.len()]);
+        let mut written = [(); 2].map(|()| vec![0; source.len()]);
+        let [read_library, read_rust] = &mut read;
+        let [written_library, written_rust] = &mut written;
+        let calls: [(_, &mut dyn FnMut() -> Answer, &mut dyn FnMut() -> Answer); 3] = [
+            (
+                "read",
+                &mut || probe::read_file(black_box(&source), black_box(read_library)),
+                &mut || file::read_file(black_box(&source), black_box(read_rust)),
+            ),
+            (
+                "write",
+                &mut || probe::write_file(black_box(&words), black_box(written_library)),
+                &mut || file::write_file(black_box(&words), black_box(written_rust)),
+            ),
+            (
+                "check",
+                &mut || probe::check_file(black_box(&source)),
+                &mut || file::check_file(black_box(&source)),
+            ),
+        ];
+        for (name, library, rust) in calls {
+            let mut calls = [library, rust].map(|call| Timed {
+                call,
+                expected: Answer::DONE,
+            });
+            let times = time_calls(&mut calls, &mut failed);
+            println!(
+                "{:<8} {name:<9} {:>12.0} {:>12.0} {:>8.2} {:>14.0} {:>14.0}",
+                mixture.name,
+                times[0],
+                times[1],
+                times[0] / times[1],
+                rate(source.len(), times[0]),
+                rate(source.len(), times[1])
+            );
+        }
+        failed += read.iter().filter(|&read| *read != words).count();
+        failed += written.iter().filter(|&bytes| *bytes != source).count();
+    }
+    if failed > 0 {
+        println!();
+        println!("{failed} calls answered otherwise: the figures above mean nothing");
+    }
+}
+
+type Part = fn(&mut Random);
+
+const PARTS: [(&str, Part); 4] = [
+    ("netlists", netlists),
+    ("ciphers", ciphers),
+    ("emissions", emissions),
+    ("files", files),
+];
+
 fn main() {
+    let asked: Vec<String> = std::env::args().skip(1).collect();
     let mut random = Random::new(20_240_229);
-    netlists(&mut random);
-    println!();
-    ciphers(&mut random);
-    println!();
-    emissions(&mut random);
+    let mut timed = 0;
+    for (name, part) in PARTS {
+        if asked.is_empty() || asked.iter().any(|asked| asked == name) {
+            if timed > 0 {
+                println!();
+            }
+            part(&mut random);
+            timed += 1;
+        }
+    }
 }
