@@ -11,6 +11,8 @@ use crate::netlist::{Answer, AND, HEADER, MUX, NOT, ONE, XOR, ZERO};
 
 /// The most inputs of a one-hot and of a threshold netlist.
 pub const MAX_COUNTED: usize = 64;
+/// The words of the largest threshold netlist.
+pub const MAX_THRESHOLD: usize = HEADER + 4 * largest_threshold() + 1;
 
 impl Answer {
     /// There is no such one-hot or threshold netlist.
@@ -185,7 +187,7 @@ fn try_threshold(d: usize, n: usize, result: &mut [u32]) -> Result<(), Answer> {
     })
 }
 
-/// The gates of threshold `d` of `n`.
+/// How many gates threshold `d` of `n` has.
 const fn threshold_gates(d: usize, n: usize) -> usize {
     if d > n {
         return 1;
@@ -193,6 +195,18 @@ const fn threshold_gates(d: usize, n: usize) -> usize {
     let multiplications = (d + 1) * (n - d + 1) - 2 - (d < n) as usize;
     // A NOT for each cell at 0, and an XOR for each sum but the first.
     multiplications + 2 * (n - d)
+}
+
+const fn largest_threshold() -> usize {
+    let (mut most, mut d) = (1, 1);
+    while d <= MAX_COUNTED {
+        let gates = threshold_gates(d, MAX_COUNTED);
+        if gates > most {
+            most = gates;
+        }
+        d += 1;
+    }
+    most
 }
 
 /// Threshold `d` of the wires `x`, of which there are at least d; its wire.

@@ -4,8 +4,9 @@
 //! [`netlist`] holds the four netlist calls (check, evaluate, meter, glue),
 //! [`cipher`] the three cipher calls (keystream, encipher, decipher) over
 //! [`filter`] and [`kreyvium`], [`choice`] the choice of rows, [`emission`]
-//! the emission of one-hot, threshold and deciphering netlists, and [`file`]
-//! the netlist file. They are written from the rules alone and share no line
+//! the emission of one-hot, threshold and deciphering netlists, [`file`] the
+//! netlist file, [`daemon`] the daemon's two calls, and [`printing`] the
+//! printing program. They are written from the rules alone and share no line
 //! with the library under test. [`definitions`] holds the ciphers, the choice,
 //! the emitted netlists and the file a second time, plain and slow. [`probe`]
 //! reaches the library through its C interface, and [`both`] hands a netlist or
@@ -21,6 +22,7 @@ pub mod cases;
 pub mod choice;
 pub mod cipher;
 pub mod cipher_cases;
+pub mod daemon;
 pub mod definitions;
 pub mod emission;
 pub mod emission_cases;
@@ -30,6 +32,7 @@ pub mod filter;
 pub mod kreyvium;
 pub mod lent;
 pub mod netlist;
+pub mod printing;
 pub mod probe;
 pub mod random;
 pub mod tally;

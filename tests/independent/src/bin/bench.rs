@@ -710,25 +710,30 @@ fn files(random: &mut Random) {
         let mut written = [(); 2].map(|()| vec![0; source.len()]);
         let [read_library, read_rust] = &mut read;
         let [written_library, written_rust] = &mut written;
-        let calls: [(_, &mut dyn FnMut() -> Answer, &mut dyn FnMut() -> Answer); 3] = [
+        let calls: [(_, [&mut dyn FnMut() -> Answer; 2]); 3] = [
             (
                 "read",
-                &mut || probe::read_file(black_box(&source), black_box(read_library)),
-                &mut || file::read_file(black_box(&source), black_box(read_rust)),
+                [
+                    &mut || probe::read_file(black_box(&source), black_box(read_library)),
+                    &mut || file::read_file(black_box(&source), black_box(read_rust)),
+                ],
             ),
             (
                 "write",
-                &mut || probe::write_file(black_box(&words), black_box(written_library)),
-                &mut || file::write_file(black_box(&words), black_box(written_rust)),
+                [
+                    &mut || probe::write_file(black_box(&words), black_box(written_library)),
+                    &mut || file::write_file(black_box(&words), black_box(written_rust)),
+                ],
             ),
             (
                 "check",
-                &mut || probe::check_file(black_box(&source)),
-                &mut || file::check_file(black_box(&source)),
+                [&mut || probe::check_file(black_box(&source)), &mut || {
+                    file::check_file(black_box(&source))
+                }],
             ),
         ];
-        for (name, library, rust) in calls {
-            let mut calls = [library, rust].map(|call| Timed {
+        for (name, programs) in calls {
+            let mut calls = programs.map(|call| Timed {
                 call,
                 expected: Answer::DONE,
             });
