@@ -1,6 +1,6 @@
-//! Links `libprobe.a`, the library under test.
+//! Links `libprobe.a` and `libsallowknot.a`, the libraries under test.
 //!
-//! Its folder is `SALLOWKNOT_LIB`, or `../../target/native` if that is unset.
+//! Their folder is `SALLOWKNOT_LIB`, or `../../target/native` if that is unset.
 
 use std::env;
 use std::path::PathBuf;
@@ -13,10 +13,10 @@ fn main() {
     };
     println!("cargo:rerun-if-env-changed=SALLOWKNOT_LIB");
     println!("cargo:rerun-if-changed=build.rs");
-    println!(
-        "cargo:rerun-if-changed={}",
-        folder.join("libprobe.a").display()
-    );
     println!("cargo:rustc-link-search=native={}", folder.display());
-    println!("cargo:rustc-link-lib=static=probe");
+    for library in ["probe", "sallowknot"] {
+        let archive = folder.join(format!("lib{library}.a"));
+        println!("cargo:rerun-if-changed={}", archive.display());
+        println!("cargo:rustc-link-lib=static={library}");
+    }
 }

@@ -9,10 +9,11 @@
 //! printing program. They are written from the rules alone and share no line
 //! with the library under test. [`definitions`] holds the ciphers, the choice,
 //! the emitted netlists and the file a second time, plain and slow. [`probe`]
-//! reaches the library through its C interface, and [`both`] hands a netlist or
-//! file call to both programs. [`cases`], [`cipher_cases`], [`emission_cases`]
-//! and [`file_cases`] make sound and damaged lists from the numbers of
-//! [`random`]; [`lent`] and [`tally`] compare and count.
+//! reaches the library through its C interface, [`sallowknot`] the daemon's, and
+//! [`both`] hands a netlist or file call to both programs. [`cases`],
+//! [`cipher_cases`], [`emission_cases`] and [`file_cases`] make sound and damaged
+//! lists from the numbers of [`random`]; [`lent`] and [`tally`] compare and
+//! count.
 //!
 //! The tests hand both programs the same lists and compare the whole answer
 //! and every lent list; the program `bench` times both on the same lists.
@@ -35,4 +36,5 @@ pub mod netlist;
 pub mod printing;
 pub mod probe;
 pub mod random;
+pub mod sallowknot;
 pub mod tally;
