@@ -1,13 +1,12 @@
 -- Writing what was read: the words in a file by place, and the bytes come back.
 use Prim.Native.Nat.{ℕ, zero, suc, _+_, _*_, _<_, _≤_}
 use mathlib.Core.Path.{_≡_, refl, sym, _∙_, ap}
-use mathlib.Core.Bool.{Bool, true, false, not}
+use mathlib.Core.Bool.{Bool, true, false}
 use mathlib.Core.List.{List, [], _∷_, _++_, append-assoc}
 use native.Mathlib.Omega.{arith}
 use native.Mathlib.Nat.{add-zero, zero-add}
 use lib.ListN.{length, getD, length-append}
 use lib.Seq.{getD-append-add}
-use lib.Dec.{ltb}
 use borrow.Author.Tests.{leb-true, eqb-true, not-false, ltb-false, lt-ltb}
 use Rattle.answer.specs.declared.Answer.the-variants.{Done}
 use Rattle.answer.specs.Choose.{choose}
@@ -70,7 +69,7 @@ module _ (form : Form) (s : List ℕ) where
   unfolding fourIn
   fours-length n = joined-length n 4 (fourIn form s) (λ i. refl)
 
-  pub outs-length : (p n : ℕ) → length (joined n (outWord s p)) ≡ 1 * n
+  outs-length : (p n : ℕ) → length (joined n (outWord s p)) ≡ 1 * n
   unfolding outWord
   outs-length p n = joined-length n 1 (outWord s p) (λ i. refl)
 

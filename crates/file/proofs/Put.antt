@@ -1,5 +1,5 @@
 -- Laws for the code that writes a file, or the words that it read.
-use Prim.Native.Nat.{ℕ, zero, suc, _+_, _*_, _<_, _≤_}
+use Prim.Native.Nat.{ℕ, suc, _+_, _*_, _<_, _≤_}
 use mathlib.Core.Path.{_≡_, refl, sym, _∙_, ap}
 use mathlib.Core.List.{List, [], _∷_, _++_}
 use native.Mathlib.Omega.{arith}
@@ -25,7 +25,7 @@ use Rattle.file.specs.File.{byteN, byteG, byteO, markOf, widthOf, wordsB
 use Rattle.file.specs.Steps.{QuadOf, Room}
 use Rattle.file.proofs.Joined.{joined-length, little-length}
 use Rattle.file.proofs.Written.{wordsBytes-length, gate-length, out-length, file-length}
-use Rattle.file.proofs.Found.{fours-length, outs-length, words-length}
+use Rattle.file.proofs.Found.{fours-length, words-length}
 
 -- ---- stores that follow one another
 

@@ -22,7 +22,7 @@ use Rattle.netlist.specs.Sound.{Limits, Sound}
 use Rattle.netlist.proofs.Accepted.{done-sound}
 use Rattle.file.specs.declared.form.Form.{Form}
 use Rattle.file.specs.declared.form.Form.the-variants.{Full}
-use Rattle.file.specs.Bytes.{joined, Bytes}
+use Rattle.file.specs.Bytes.{Bytes}
 use Rattle.file.specs.File.{widthOf, gateBytes, fileOf, inputsIn, gatesIn, outputsIn, wordsIn, recordAnswer, gateRecord, outRecord, outsAnswer, recordsAnswer, readAnswer, checkAnswer, writeAnswer, ReadAs, WrittenAs}
 use Rattle.file.proofs.Joined.{joined-length}
 use Rattle.file.proofs.Written.{gate-length, file-length, limits-done, words-back, check-written, room-written}

@@ -11,12 +11,12 @@ use Rattle.netlist.specs.Gates.{takenOf}
 use Rattle.netlist.specs.Check.{operandAnswer, takenAnswer, wordsAnswer, netAnswer}
 use Rattle.file.specs.declared.form.Form.the-variants.{Full}
 use Rattle.file.specs.Bytes.{little, wordAt, joined}
-use Rattle.file.specs.File.{markOf, widthOf, wordsBytes, headBytes, gateBytes, outBytes, fileOf, sizeAt, startOf, operandAt, fourIn, outWord, wordsIn, begins, recordAnswer, gateRecord, outRecord, outsAnswer, recordsAnswer, readAnswer, checkAnswer, writeAnswer, ReadAs, WrittenAs}
+use Rattle.file.specs.File.{markOf, widthOf, wordsBytes, headBytes, outBytes, fileOf, sizeAt, startOf, operandAt, fourIn, outWord, wordsIn, begins, recordAnswer, gateRecord, outRecord, outsAnswer, recordsAnswer, readAnswer, checkAnswer, writeAnswer, ReadAs, WrittenAs}
 
-abbrev pass : List ℕ
+abbrev pub pass : List ℕ
 pass = 1 ∷ 0 ∷ 1 ∷ 0 ∷ []
 
-abbrev passFile : List ℕ
+abbrev pub passFile : List ℕ
 passFile =
     0x4E ∷ 0x48 ∷ 0x01 ∷ 0x00 ∷ 0x00 ∷ 0x00 ∷ 0x00 ∷ 0x00 ∷ 0x00 ∷ 0x00 ∷ 0x01 ∷ 0x00 ∷ 0x00 ∷ 0x00
     ∷ 0x4E ∷ 0x4F ∷ 0x00 ∷ 0x00 ∷ 0x00 ∷ 0x00 ∷ []

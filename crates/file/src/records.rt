@@ -29,10 +29,12 @@ fn begins_at(s: &[u8], p: usize, letter: u8, size: usize) -> bool
     if s.len() - p < size {
         return false;
     }
-    if s[p] != BYTE_N {
+    let first = s[p];
+    let second = s[p + 1];
+    if first != BYTE_N {
         return false;
     }
-    if s[p + 1] != letter {
+    if second != letter {
         return false;
     }
     true

@@ -7,15 +7,25 @@ use answer::Answer;
 ghost use mathlib.Core.Path.{_≡_};
 ghost use Prim.Native.Nat.{_+_, _*_, _<_, _≤_};
 ghost use lib.ListN.{length};
+ghost use lib.Dec.{ltb};
 ghost use Rattle.answer.specs.Answers.{each};
 ghost use Rattle.netlist.specs.Words.{gatePlace};
 ghost use Rattle.netlist.specs.Check.{inputLimit, gateLimit, operandAnswer, wordsAnswer, gateAnswer, outputAnswer, countsAnswer, wiresAnswer, netAnswer};
 
-// An operand of the gate on the given wire: an earlier wire if used; if not, 0, which is below 1.
-fn operand(used: bool, wire: u32, x: u32, list: u32, place: usize) -> Answer
-    ensures { λ r. ⌜ r ≡ operandAnswer used wire x list place ⌝ }
+// The kinds that use a first, a second and a third operand: bit k is of kind k.
+const USE_FIRST: u32 = 0x3C;
+
+const USE_SECOND: u32 = 0x38;
+
+const USE_THIRD: u32 = 0x20;
+
+// An operand of the gate on the given wire: an earlier wire if used is 1; if it is 0, 0, which is below 1. The
+// limit is summed up and not chosen, since kinds come in no order.
+fn operand(used: u32, wire: u32, x: u32, list: u32, place: usize) -> Answer
+    requires { ⌜ used ≤ 1 ⌝ }
+    ensures { λ r. ⌜ r ≡ operandAnswer (ltb 0 used) wire x list place ⌝ }
 {
-    let limit = if used { wire } else { 1 };
+    let limit = used * wire + (1 - used);
     if limit <= x {
         return Answer::Refused {
             number: answer::NETLIST,
@@ -39,16 +49,16 @@ pub fn words(kind: u32, a: u32, b: u32, c: u32, wire: u32, list: u32, place: u32
             place: at,
         };
     };
-    let n = crate::gate::uses(gate);
-    let first = operand(0 < n, wire, a, list, at + 1);
+    let k = crate::gate::code(gate);
+    let first = operand((USE_FIRST >> k) % 2, wire, a, list, at + 1);
     let Answer::Done = first else {
         return first;
     };
-    let second = operand(1 < n, wire, b, list, at + 2);
+    let second = operand((USE_SECOND >> k) % 2, wire, b, list, at + 2);
     let Answer::Done = second else {
         return second;
     };
-    operand(2 < n, wire, c, list, at + 3)
+    operand((USE_THIRD >> k) % 2, wire, c, list, at + 3)
 }
 
 fn gate(net: &[u32], inputs: u32, g: u32, list: u32) -> Answer
