@@ -1,6 +1,6 @@
 -- An answer in one number has room for every number and list that the two calls give, and can be taken apart again.
-use Prim.Native.Nat.{ℕ, _/_, _%_, _<_, min}
-use mathlib.Core.Path.{_≡_, subst}
+use Prim.Native.Nat.{ℕ, _/_, _%_, _<_, _≤_, min}
+use mathlib.Core.Path.{_≡_, refl, subst}
 use mathlib.Core.Bool.{Bool}
 use mathlib.Core.List.{List}
 use native.Mathlib.Omega.{arith}
@@ -38,32 +38,53 @@ module _ (a : Answer) (s : Small a) where
   unfolding packedOf
   place-told = omega (arith, s .number, s .list)
 
+-- the call of Kreyvium answers Done, or 2 to 8 on lists 0 to 4: what these have, it has
+module _ (P : Answer → Type 0) (done : P Done) (refused : (n l p : ℕ) → 2 ≤ n → n ≤ 8 → l ≤ 4 → P (Refused n l p)) where
+  refuse-one : (n l p : ℕ) (b : Bool) → 2 ≤ n → n ≤ 8 → l ≤ 4 → P (refuse n l p b)
+  refuse-one n l p b g h k = refuse-has P done n l p b (refused n l p g h k)
+
+  refuse-three : (n p q r : ℕ) (b c d : Bool) → 2 ≤ n → n ≤ 8 → P (refuse n 1 p b ▹ refuse n 2 q c ▹ refuse n 3 r d)
+  refuse-three n p q r b c d g h =
+      row-has P _ _ (refuse-one n 1 p b g h (omega arith))
+      (row-has P _ _ (refuse-one n 2 q c g h (omega arith)) (refuse-one n 3 r d g h (omega arith)))
+
+  pub kreyvium-has : (m : ℕ) (key rec iv : List ℕ) (n : ℕ) → P (kreyviumAnswer m key rec iv n)
+  unfolding kreyviumAnswer lengthAnswer bitsAnswer roomAnswer
+  kreyvium-has m key rec iv n =
+      row-has P _ _ (refuse-one 2 0 0 _ (omega arith) (omega arith) (omega arith))
+      (row-has P _ _ (refuse-three 3 _ _ _ _ _ _ (omega arith) (omega arith))
+      (row-has P _ _ (refuse-three 4 _ _ _ _ _ _ (omega arith) (omega arith)) (refuse-one 8 4 n _ (omega arith) (omega arith) (omega arith))))
+
+-- number and list have room
 small-done : Small Done
 small-done = record { number = omega arith; list = omega arith }
 
 small-refused : (n l p : ℕ) → n < 256 → l < 256 → Small (Refused n l p)
 small-refused n l p h k = record { number = h; list = k }
 
-small-row : (a b : Answer) → Small a → Small b → Small (a ▹ b)
-small-row = row-has Small
-
-small-refuse : (n l p : ℕ) (b : Bool) → n < 256 → l < 256 → Small (refuse n l p b)
-small-refuse n l p b h k = refuse-has Small small-done n l p b (small-refused n l p h k)
-
--- each of lists 1, 2 and 3
-small-three : (n : ℕ) (p q r : ℕ) (b c d : Bool) → n < 256 → Small (refuse n 1 p b ▹ refuse n 2 q c ▹ refuse n 3 r d)
-small-three n p q r b c d h =
-    small-row _ _ (small-refuse n 1 p b h (omega arith))
-    (small-row _ _ (small-refuse n 2 q c h (omega arith)) (small-refuse n 3 r d h (omega arith)))
-
 pub kreyvium-small : (m : ℕ) (key rec iv : List ℕ) (n : ℕ) → Small (kreyviumAnswer m key rec iv n)
-unfolding kreyviumAnswer lengthAnswer bitsAnswer roomAnswer
-kreyvium-small m key rec iv n =
-    small-row _ _ (small-refuse 2 0 0 _ (omega arith) (omega arith))
-    (small-row _ _ (small-three 3 _ _ _ _ _ _ (omega arith))
-    (small-row _ _ (small-three 4 _ _ _ _ _ _ (omega arith)) (small-refuse 8 4 n _ (omega arith) (omega arith))))
+kreyvium-small = kreyvium-has Small small-done (λ n l p g h k. small-refused n l p (omega arith) (omega arith))
 
 pub check-small : (form : Form) (s : List ℕ) → Small (checkAnswer form s)
 check-small =
     check-has Small small-done (λ p. small-refused 9 1 p (omega arith) (omega arith))
     (λ p. small-refused 12 1 p (omega arith) (omega arith))
+
+-- 0 is done, and it alone
+pub done-zero : {a : Answer} → a ≡ Done → packedOf a ≡ 0
+unfolding packedOf
+done-zero e = rw e
+
+abbrev ZeroDone : Answer → Type 0
+ZeroDone a = packedOf a ≡ 0 → a ≡ Done
+
+zero-refused : (n l p : ℕ) → 0 < n → ZeroDone (Refused n l p)
+unfolding packedOf
+zero-refused n l p h e = absurd (omega arith)
+
+pub kreyvium-zero : (m : ℕ) (key rec iv : List ℕ) (n : ℕ) → packedOf (kreyviumAnswer m key rec iv n) ≡ 0 → kreyviumAnswer m key rec iv n ≡ Done
+kreyvium-zero = kreyvium-has ZeroDone (λ e. refl) (λ n l p g h k. zero-refused n l p (omega arith))
+
+pub check-zero : (form : Form) (s : List ℕ) → packedOf (checkAnswer form s) ≡ 0 → checkAnswer form s ≡ Done
+check-zero =
+    check-has ZeroDone (λ e. refl) (λ p. zero-refused 9 1 p (omega arith)) (λ p. zero-refused 12 1 p (omega arith))
