@@ -1,6 +1,6 @@
 -- Instance 6 with no indices, its lists counted without them, is the call of Kreyvium.
 use Prim.Native.Nat.{ℕ, _-_}
-use mathlib.Core.Path.{_≡_, refl, ap, ap₂, _∙_}
+use mathlib.Core.Path.{_≡_, refl, sym, ap, ap₂, _∙_}
 use mathlib.Core.Bool.{Bool, true, false}
 use mathlib.Core.List.{List, []}
 use native.Mathlib.Nat.{mul-zero}
@@ -18,7 +18,7 @@ use Rattle.instance.specs.Judging.{outside, numbersAnswer, lengthAnswer, firstA
 use Rattle.kreyvium.specs.Kreyvium.{streamOf}
 use Rattle.cipher.specs.Judging.{wiringLengths, wiringAnswer, encipherAnswer}
 use Rattle.cipher.specs.Cipher.{keystreamOf, encipherOf, Ciphered}
-use Rattle.daemon.specs.Daemon.{withoutIndices, kreyviumAnswer}
+use Rattle.daemon.specs.Daemon.{withoutIndices, kreyviumAnswer, Enciphered}
 
 counted-row : (a b : Answer) → withoutIndices (a ▹ b) ≡ withoutIndices a ▹ withoutIndices b
 unfolding withoutIndices _▹_
@@ -71,11 +71,34 @@ unfolding left withoutIndices
 left-counted Done front old = refl
 left-counted (Refused n l p) front old = refl
 
+kreyvium-same : (m : ℕ) (key rec iv out : List ℕ)
+    → left (encipherAnswer 6 m key rec [] iv (length out)) (encipherOf 6 m key rec [] iv) out ≡ left (kreyviumAnswer m key rec iv (length out)) (added rec (streamOf key iv m)) out
+unfolding encipherOf keystreamOf
+kreyvium-same m key rec iv out =
+    left-counted (encipherAnswer 6 m key rec [] iv (length out)) _ out
+    ∙ ap (λ (a : Answer). left a (added rec (streamOf key iv m)) out) (kreyvium-counted m key rec iv (length out))
+
 pub kreyvium-left : (m : ℕ) (key rec iv out : List ℕ) {r : Answer} {out′ : List ℕ} → Ciphered 6 m key rec [] iv out r out′
     → out′ ≡ left (kreyviumAnswer m key rec iv (length out)) (added rec (streamOf key iv m)) out
-unfolding encipherOf keystreamOf
-kreyvium-left m key rec iv out {r} x =
+kreyvium-left m key rec iv out x =
     x .written
-    ∙ left-counted r _ out
-    ∙ ap (λ (a : Answer). left (withoutIndices a) (added rec (streamOf key iv m)) out) (x .answered)
-    ∙ ap (λ (a : Answer). left a (added rec (streamOf key iv m)) out) (kreyvium-counted m key rec iv (length out))
+    ∙ ap (λ (a : Answer). left a (encipherOf 6 m key rec [] iv) out) (x .answered)
+    ∙ kreyvium-same m key rec iv out
+
+-- So what holds of the cipher call holds of this one: what it left is what that one leaves, and it is accepted where that one
+-- is.
+pub as-cipher : (m : ℕ) (key rec iv out : List ℕ) {r : ℕ} {out′ : List ℕ} → Enciphered m key rec iv out r out′
+    → Ciphered 6 m key rec [] iv out (encipherAnswer 6 m key rec [] iv (length out)) out′
+as-cipher m key rec iv out x = record { answered = refl; written = x .written ∙ sym (kreyvium-same m key rec iv out) }
+
+counted-done : (a : Answer) → withoutIndices a ≡ Done → a ≡ Done
+unfolding withoutIndices
+counted-done Done e = refl
+counted-done (Refused n l p) e = cc
+
+pub accepted-cipher : (m : ℕ) (key rec iv : List ℕ) (n : ℕ) → kreyviumAnswer m key rec iv n ≡ Done → encipherAnswer 6 m key rec [] iv n ≡ Done
+accepted-cipher m key rec iv n e = counted-done _ (kreyvium-counted m key rec iv n ∙ e)
+
+pub cipher-accepted : (m : ℕ) (key rec iv : List ℕ) (n : ℕ) → encipherAnswer 6 m key rec [] iv n ≡ Done → kreyviumAnswer m key rec iv n ≡ Done
+unfolding withoutIndices
+cipher-accepted m key rec iv n e = sym (kreyvium-counted m key rec iv n) ∙ ap withoutIndices e

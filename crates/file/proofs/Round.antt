@@ -1,16 +1,17 @@
 -- Reading what was written returns the words; writing what was read returns the bytes; a check answers as reading does.
 -- Stated over what the calls promise.
-use Prim.Native.Nat.{ℕ, zero, suc, _+_, _*_, _≤_}
+use Prim.Native.Nat.{ℕ, _+_, _*_, _≤_}
 use mathlib.Core.Path.{_≡_, refl, sym, _∙_, ap}
-use mathlib.Core.Bool.{Bool, true, false, not}
+use mathlib.Core.Bool.{Bool, not}
 use mathlib.Core.List.{List}
 use native.Mathlib.Omega.{arith}
 use lib.ListN.{length, take}
 use borrow.Author.Tests.{le-ltb, eq-eqb}
 use Rattle.answer.specs.declared.Answer.{Answer}
 use Rattle.answer.specs.declared.Answer.the-variants.{Done, Refused}
-use Rattle.answer.specs.Answers.{_▹_, refuse, each, numberOf}
+use Rattle.answer.specs.Answers.{_▹_, refuse, numberOf}
 use Rattle.answer.specs.Fronts.{over, left}
+use Rattle.answer.proofs.Every.{row-has, refuse-has, each-has}
 use Rattle.answer.proofs.Rows.{first-done, then-done, both, refuse-not}
 use Rattle.answer.proofs.Over.{take-over}
 use Rattle.netlist.specs.declared.gate.Taken.{Taken}
@@ -40,58 +41,46 @@ pub check-as-read : (form : Form) (s result : List ℕ) {r : Answer} {result′ 
     → gatePlace (gatesIn s) + outputsIn s ≤ length result → r ≡ checkAnswer form s
 check-as-read form s result a h = a .answered ∙ room-check form s (length result) h
 
--- a check never answers 8
-abbrev Not8 : Answer → Type 0
-Not8 a = numberOf a ≡ 8 → ⊥
+-- a check answers Done, or 9 or 12 on list 1: what these have, it has
+module _ (P : Answer → Type 0) (d : P Done) (x9 : (p : ℕ) → P (Refused 9 1 p)) (x12 : (p : ℕ) → P (Refused 12 1 p)) where
+  refuse9 : (p : ℕ) (b : Bool) → P (refuse 9 1 p b)
+  refuse9 p b = refuse-has P d 9 1 p b (x9 p)
 
-row-not : (a b : Answer) → Not8 a → Not8 b → Not8 (a ▹ b)
-unfolding _▹_
-row-not Done b h k = k
-row-not (Refused n l p) b h k = h
+  refuse12 : (p : ℕ) (b : Bool) → P (refuse 12 1 p b)
+  refuse12 p b = refuse-has P d 12 1 p b (x12 p)
 
-refuse-other : (n l p : ℕ) (b : Bool) → (n ≡ 8 → ⊥) → Not8 (refuse n l p b)
-unfolding refuse
-refuse-other n l p true h = h
-refuse-other n l p false h = λ e. omega arith
+  taken-has : (t : Taken) (a b c w p : ℕ) → P (takenAnswer t a b c w 1 p)
+  unfolding takenAnswer operandAnswer
+  taken-has Unknown a b c w p = x9 p
+  taken-has (Valid g) a b c w p = row-has P _ _ (refuse9 _ _) (row-has P _ _ (refuse9 _ _) (refuse9 _ _))
 
-refuse9 : (l p : ℕ) (b : Bool) → Not8 (refuse 9 l p b)
-refuse9 l p b = refuse-other 9 l p b (λ e. omega arith)
+  words-has : (k a b c w p : ℕ) → P (wordsAnswer k a b c w 1 p)
+  unfolding wordsAnswer
+  words-has k a b c w p = taken-has (takenOf k a b c) a b c w p
 
-refuse12 : (l p : ℕ) (b : Bool) → Not8 (refuse 12 l p b)
-refuse12 l p b = refuse-other 12 l p b (λ e. omega arith)
+  wires-has : (ws : List ℕ) (I G O : ℕ) → P (wiresAnswer 1 ws I G O)
+  wires-has ws I G O =
+      row-has P _ _ (each-has P d G _ (λ g. words-has _ _ _ _ _ _)) (each-has P d O _ (λ o. refuse9 _ _))
 
-each-not : (n : ℕ) (f : ℕ → Answer) → ((k : ℕ) → Not8 (f k)) → Not8 (each n f)
-unfolding each
-each-not zero f h = λ e. omega arith
-each-not (suc n) f h = row-not (each n f) (f n) (each-not n f h) (h n)
+  record-has : (s : List ℕ) (p letter size : ℕ) → P (recordAnswer s p letter size)
+  unfolding recordAnswer
+  record-has s p letter size = refuse12 p _
 
-taken-not : (t : Taken) (a b c w l p : ℕ) → Not8 (takenAnswer t a b c w l p)
-unfolding takenAnswer operandAnswer
-taken-not Unknown a b c w l p = λ e. omega arith
-taken-not (Valid g) a b c w l p = row-not _ _ (refuse9 l _ _) (row-not _ _ (refuse9 l _ _) (refuse9 l _ _))
+  records-has : (form : Form) (s : List ℕ) → P (recordsAnswer form s)
+  unfolding recordsAnswer outsAnswer gateRecord outRecord
+  records-has form s =
+      row-has P _ _ (each-has P d _ _ (λ g. record-has s _ _ _)) (row-has P _ _ (each-has P d _ _ (λ o. record-has s _ _ _)) (refuse12 _ _))
 
-words-not : (k a b c w l p : ℕ) → Not8 (wordsAnswer k a b c w l p)
-unfolding wordsAnswer
-words-not k a b c w l p = taken-not (takenOf k a b c) a b c w l p
+  pub check-has : (form : Form) (s : List ℕ) → P (checkAnswer form s)
+  unfolding checkAnswer
+  check-has form s =
+      row-has P _ _ (record-has s _ _ _)
+      (row-has P _ _ (row-has P _ _ (refuse9 _ _) (row-has P _ _ (refuse9 _ _) (refuse9 _ _)))
+      (row-has P _ _ (records-has form s) (wires-has (wordsIn form s) (inputsIn s) (gatesIn s) (outputsIn s))))
 
-wires-not : (l : ℕ) (ws : List ℕ) (I G O : ℕ) → Not8 (wiresAnswer l ws I G O)
-wires-not l ws I G O = row-not _ _ (each-not G _ (λ g. words-not _ _ _ _ _ l _)) (each-not O _ (λ o. refuse9 l _ _))
-
-record-not : (s : List ℕ) (p letter size : ℕ) → Not8 (recordAnswer s p letter size)
-unfolding recordAnswer
-record-not s p letter size = refuse12 1 p _
-
-records-not : (form : Form) (s : List ℕ) → Not8 (recordsAnswer form s)
-unfolding recordsAnswer outsAnswer gateRecord outRecord
-records-not form s =
-    row-not _ _ (each-not _ _ (λ g. record-not s _ _ _)) (row-not _ _ (each-not _ _ (λ o. record-not s _ _ _)) (refuse12 1 _ _))
-
+-- so never 8
 pub check-never-8 : (form : Form) (s : List ℕ) → numberOf (checkAnswer form s) ≡ 8 → ⊥
-unfolding checkAnswer
-check-never-8 form s =
-    row-not _ _ (record-not s _ _ _)
-    (row-not _ _ (row-not _ _ (refuse9 1 _ _) (row-not _ _ (refuse9 1 _ _) (refuse9 1 _ _)))
-    (row-not _ _ (records-not form s) (wires-not 1 (wordsIn form s) (inputsIn s) (gatesIn s) (outputsIn s))))
+check-never-8 = check-has (λ a. numberOf a ≡ 8 → ⊥) (λ e. omega arith) (λ p e. omega arith) (λ p e. omega arith)
 
 -- ---- what was read is a netlist
 

@@ -1,5 +1,4 @@
 use mathlib.Core.Path.{ap, _∙_}
-use denote.Ref.{now}
 use Rattle.file.specs.declared.form.Form.{Form}
 use Rattle.daemon.specs.Packed.{packedOf}
 use Rattle.daemon.proofs.Numbers.{check-small}

@@ -1,5 +1,4 @@
 use mathlib.Core.Path.{_≡_, ap, _∙_}
-use mathlib.Core.List.{[]}
 use denote.Ref.{now}
 use lib.ListN.{length}
 use Rattle.daemon.specs.Packed.{packedOf}
