@@ -1,0 +1,8 @@
+pub mod Decimals
+pub mod Parts
+pub mod Reading
+pub mod Netlists
+pub mod Thresholds
+pub mod Fits
+pub mod Printing
+pub mod Lines

@@ -1,0 +1,38 @@
+use Rattle.text.proofs.Parts.{first-room, next-room, wrote-then}
+use Rattle.text.specs.Text.{gateLine}
+use borrow.Author.Needs.{needs}
+use Rattle.text.proofs.gates.put_gate.Statement.{statement}
+use Rattle.text.proofs.gates.put_gate.Tie as tie
+
+put-decimal-requires : tie.Need-put-decimal-requires
+unfolding gateLine
+put-decimal-requires c κs = first-room _ (first-room _ (c .before .before .pre))
+
+put-kind-requires : tie.Need-put-kind-requires
+unfolding gateLine
+put-kind-requires c κs = next-room (c .before .before .before .put-decimal .ensures) (first-room _ (c .before .before .before .before .before .before .pre))
+
+slice-aggregate-put-bytes : tie.Need-slice-aggregate-put-bytes
+slice-aggregate-put-bytes c = search needs
+
+put-bytes-requires : tie.Need-put-bytes-requires
+unfolding gateLine
+put-bytes-requires c κs = next-room (wrote-then (c .before .before .before .before .before .before .before .before .put-decimal .ensures) (c .before .before .before .before .put-kind .ensures)) (c .before .before .before .before .before .before .before .before .before .before .before .pre)
+
+same-length : tie.Need-same-length
+same-length c = search needs
+
+returns : tie.Need-returns
+unfolding gateLine
+returns c = wrote-then (wrote-then (c .before .before .before .before .before .before .before .before .before .before .before .put-decimal .ensures) (c .before .before .before .before .before .before .before .put-kind .ensures)) (c .before .before .put-bytes .ensures)
+
+pub put-gate-spec : {M : Type 1} → statement M
+put-gate-spec =
+    tie.close
+    (tie.spec
+    put-decimal-requires
+    put-kind-requires
+    slice-aggregate-put-bytes
+    put-bytes-requires
+    same-length
+    returns)

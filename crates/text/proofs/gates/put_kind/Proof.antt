@@ -1,0 +1,178 @@
+use Rattle.text.proofs.Parts.{first-room, next-room, wrote-then}
+use Rattle.text.specs.Text.{gateText}
+use borrow.Author.Needs.{needs}
+use Rattle.text.proofs.gates.put_kind.Statement.{statement}
+use Rattle.text.proofs.gates.put_kind.Tie as tie
+
+enum-told : tie.Need-enum-told
+enum-told c = search needs
+
+slice-aggregate-put-bytes : tie.Need-slice-aggregate-put-bytes
+slice-aggregate-put-bytes c = search needs
+
+put-bytes-requires : tie.Need-put-bytes-requires
+unfolding gateText
+put-bytes-requires c κs = rw (c .before .before .enum-told .given .1) at (c .before .before .before .before .before .pre)
+
+enum-told-2 : tie.Need-enum-told-2
+enum-told-2 c = search needs
+
+slice-aggregate-put-bytes-2 : tie.Need-slice-aggregate-put-bytes-2
+slice-aggregate-put-bytes-2 c = search needs
+
+put-bytes-requires-2 : tie.Need-put-bytes-requires-2
+unfolding gateText
+put-bytes-requires-2 c κs = rw (c .before .before .enum-told2 .given .1) at (c .before .before .before .before .before .pre)
+
+enum-known-gate : tie.Need-enum-known-gate
+enum-known-gate c = search needs
+
+slice-aggregate-put-named : tie.Need-slice-aggregate-put-named
+slice-aggregate-put-named c = search needs
+
+put-named-requires : tie.Need-put-named-requires
+unfolding gateText
+put-named-requires c κs = rw (c .before .before .before .gate .given .1) at (c .before .before .before .before .before .before .pre)
+
+enum-known-gate-2 : tie.Need-enum-known-gate-2
+enum-known-gate-2 c = search needs
+
+slice-aggregate-put-named-2 : tie.Need-slice-aggregate-put-named-2
+slice-aggregate-put-named-2 c = search needs
+
+put-named-requires-2 : tie.Need-put-named-requires-2
+unfolding gateText
+put-named-requires-2 c κs = first-room _ (rw (c .before .before .before .gate2 .given .1) at (c .before .before .before .before .before .before .pre))
+
+slice-aggregate-put-named-3 : tie.Need-slice-aggregate-put-named-3
+slice-aggregate-put-named-3 c = search needs
+
+put-named-requires-3 : tie.Need-put-named-requires-3
+unfolding gateText
+put-named-requires-3 c κs = next-room (c .before .before .before .before .put-named2 .ensures) (rw (c .before .before .before .before .before .before .before .before .gate2 .given .1) at (c .before .before .before .before .before .before .before .before .before .before .before .pre))
+
+enum-known-gate-3 : tie.Need-enum-known-gate-3
+enum-known-gate-3 c = search needs
+
+slice-aggregate-put-named-4 : tie.Need-slice-aggregate-put-named-4
+slice-aggregate-put-named-4 c = search needs
+
+put-named-requires-4 : tie.Need-put-named-requires-4
+unfolding gateText
+put-named-requires-4 c κs = first-room _ (rw (c .before .before .before .gate3 .given .1) at (c .before .before .before .before .before .before .pre))
+
+slice-aggregate-put-named-5 : tie.Need-slice-aggregate-put-named-5
+slice-aggregate-put-named-5 c = search needs
+
+put-named-requires-5 : tie.Need-put-named-requires-5
+unfolding gateText
+put-named-requires-5 c κs = next-room (c .before .before .before .before .put-named4 .ensures) (rw (c .before .before .before .before .before .before .before .before .gate3 .given .1) at (c .before .before .before .before .before .before .before .before .before .before .before .pre))
+
+enum-known-gate-4 : tie.Need-enum-known-gate-4
+enum-known-gate-4 c = search needs
+
+slice-aggregate-put-named-6 : tie.Need-slice-aggregate-put-named-6
+slice-aggregate-put-named-6 c = search needs
+
+put-named-requires-6 : tie.Need-put-named-requires-6
+unfolding gateText
+put-named-requires-6 c κs = first-room _ (first-room _ (rw (c .before .before .before .gate4 .given .1) at (c .before .before .before .before .before .before .pre)))
+
+slice-aggregate-put-named-7 : tie.Need-slice-aggregate-put-named-7
+slice-aggregate-put-named-7 c = search needs
+
+put-named-requires-7 : tie.Need-put-named-requires-7
+unfolding gateText
+put-named-requires-7 c κs = next-room (c .before .before .before .before .put-named6 .ensures) (first-room _ (rw (c .before .before .before .before .before .before .before .before .gate4 .given .1) at (c .before .before .before .before .before .before .before .before .before .before .before .pre)))
+
+slice-aggregate-put-named-8 : tie.Need-slice-aggregate-put-named-8
+slice-aggregate-put-named-8 c = search needs
+
+put-named-requires-8 : tie.Need-put-named-requires-8
+unfolding gateText
+put-named-requires-8 c κs = next-room (wrote-then (c .before .before .before .before .before .before .before .before .before .put-named6 .ensures) (c .before .before .before .before .put-named7 .ensures)) (rw (c .before .before .before .before .before .before .before .before .before .before .before .before .before .gate4 .given .1) at (c .before .before .before .before .before .before .before .before .before .before .before .before .before .before .before .before .pre))
+
+same-length : tie.Need-same-length
+same-length c = search needs
+
+returns : tie.Need-returns
+unfolding gateText
+returns c = rw (c .before .before .before .before .before .enum-told .given .1) (c .before .before .put-bytes .ensures)
+
+same-length-2 : tie.Need-same-length-2
+same-length-2 c = search needs
+
+returns-2 : tie.Need-returns-2
+unfolding gateText
+returns-2 c = rw (c .before .before .before .before .before .enum-told2 .given .1) (c .before .before .put-bytes2 .ensures)
+
+same-length-3 : tie.Need-same-length-3
+same-length-3 c = search needs
+
+returns-3 : tie.Need-returns-3
+unfolding gateText
+returns-3 c = rw (c .before .before .before .before .before .before .gate .given .1) (c .before .before .put-named .ensures)
+
+same-length-4 : tie.Need-same-length-4
+same-length-4 c = search needs
+
+returns-4 : tie.Need-returns-4
+unfolding gateText
+returns-4 c = rw (c .before .before .before .before .before .before .before .before .before .before .before .gate2 .given .1) (wrote-then (c .before .before .before .before .before .before .before .put-named2 .ensures) (c .before .before .put-named3 .ensures))
+
+same-length-5 : tie.Need-same-length-5
+same-length-5 c = search needs
+
+returns-5 : tie.Need-returns-5
+unfolding gateText
+returns-5 c = rw (c .before .before .before .before .before .before .before .before .before .before .before .gate3 .given .1) (wrote-then (c .before .before .before .before .before .before .before .put-named4 .ensures) (c .before .before .put-named5 .ensures))
+
+same-length-6 : tie.Need-same-length-6
+same-length-6 c = search needs
+
+returns-6 : tie.Need-returns-6
+unfolding gateText
+returns-6 c = rw (c .before .before .before .before .before .before .before .before .before .before .before .before .before .before .before .before .gate4 .given .1) (wrote-then (wrote-then (c .before .before .before .before .before .before .before .before .before .before .before .before .put-named6 .ensures) (c .before .before .before .before .before .before .before .put-named7 .ensures)) (c .before .before .put-named8 .ensures))
+
+pub put-kind-spec : {M : Type 1} → statement M
+put-kind-spec =
+    tie.close
+    (tie.spec
+    enum-told
+    slice-aggregate-put-bytes
+    put-bytes-requires
+    enum-told-2
+    slice-aggregate-put-bytes-2
+    put-bytes-requires-2
+    enum-known-gate
+    slice-aggregate-put-named
+    put-named-requires
+    enum-known-gate-2
+    slice-aggregate-put-named-2
+    put-named-requires-2
+    slice-aggregate-put-named-3
+    put-named-requires-3
+    enum-known-gate-3
+    slice-aggregate-put-named-4
+    put-named-requires-4
+    slice-aggregate-put-named-5
+    put-named-requires-5
+    enum-known-gate-4
+    slice-aggregate-put-named-6
+    put-named-requires-6
+    slice-aggregate-put-named-7
+    put-named-requires-7
+    slice-aggregate-put-named-8
+    put-named-requires-8
+    same-length
+    returns
+    same-length-2
+    returns-2
+    same-length-3
+    returns-3
+    same-length-4
+    returns-4
+    same-length-5
+    returns-5
+    same-length-6
+    returns-6)

@@ -1,0 +1,4 @@
+pub mod Decimal
+pub mod Asked
+pub mod Text
+pub mod Puts

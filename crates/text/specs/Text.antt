@@ -1,0 +1,100 @@
+-- What the printing program prints. Document 01, "The printing program": a title with d and n; counts; a gate's wire,
+-- kind and used operands; each output wire. Bytes are in comments as they read.
+use Prim.Native.Nat.{ℕ, suc}
+use mathlib.Core.List.{List, [], _∷_, _++_}
+use lib.ListN.{length, drop}
+use Rattle.answer.specs.Choose.{choose}
+use Rattle.netlist.specs.declared.gate.Gate.{Gate}
+use Rattle.netlist.specs.declared.gate.Gate.the-variants.{Zero, One, Not, Xor, And, Mux}
+use Rattle.netlist.specs.Net.{Net, depth, mults}
+use Rattle.netlist.specs.Words.{inputsOf, gatesOf, outputsOf, gatePlace, gatesAt}
+use Rattle.cells.specs.Cells.{thresholdNet}
+use Rattle.emit.specs.Emit.{noThreshold}
+use Rattle.text.specs.declared.Asked.{Asked}
+use Rattle.text.specs.declared.Asked.the-variants.{Line, Nothing}
+use Rattle.text.specs.Decimal.{decimal}
+use Rattle.text.specs.Asked.{askedOf}
+
+-- "\n", " "
+abbrev pub newline : List ℕ
+newline = 10 ∷ []
+
+abbrev pub space : List ℕ
+space = 32 ∷ []
+
+-- a number and what stands before it
+unfoldable pub named : List ℕ → ℕ → List ℕ
+named name n = name ++ decimal n
+
+-- "T d n"
+unfoldable pub titleLine : ℕ → ℕ → List ℕ
+titleLine d n = named (84 ∷ 32 ∷ []) d ++ named space n ++ newline
+
+-- "in I gates G out O", and " depth D mult M" to the line's end
+unfoldable pub sizes : ℕ → ℕ → ℕ → List ℕ
+sizes I G O =
+    named (105 ∷ 110 ∷ 32 ∷ []) I
+    ++ named (32 ∷ 103 ∷ 97 ∷ 116 ∷ 101 ∷ 115 ∷ 32 ∷ []) G
+    ++ named (32 ∷ 111 ∷ 117 ∷ 116 ∷ 32 ∷ []) O
+
+unfoldable pub costs : ℕ → ℕ → List ℕ
+costs D M =
+    named (32 ∷ 100 ∷ 101 ∷ 112 ∷ 116 ∷ 104 ∷ 32 ∷ []) D
+    ++ named (32 ∷ 109 ∷ 117 ∷ 108 ∷ 116 ∷ 32 ∷ []) M
+    ++ newline
+
+-- " ZERO", " ONE", " NOT a", " XOR a b", " AND a b", " MUX a b c"
+unfoldable pub gateText : Gate → List ℕ
+gateText Zero = 32 ∷ 90 ∷ 69 ∷ 82 ∷ 79 ∷ []
+gateText One = 32 ∷ 79 ∷ 78 ∷ 69 ∷ []
+gateText (Not a) = named (32 ∷ 78 ∷ 79 ∷ 84 ∷ 32 ∷ []) a
+gateText (Xor a b) = named (32 ∷ 88 ∷ 79 ∷ 82 ∷ 32 ∷ []) a ++ named space b
+gateText (And a b) = named (32 ∷ 65 ∷ 78 ∷ 68 ∷ 32 ∷ []) a ++ named space b
+gateText (Mux a b c) = named (32 ∷ 77 ∷ 85 ∷ 88 ∷ 32 ∷ []) a ++ named space b ++ named space c
+
+unfoldable pub gateLine : ℕ → Gate → List ℕ
+gateLine w g = decimal w ++ gateText g ++ newline
+
+-- the gates from wire w on
+unfoldable pub gateLines : ℕ → List Gate → List ℕ
+gateLines w [] = []
+gateLines w (g ∷ gs) = gateLine w g ++ gateLines (suc w) gs
+
+-- "out w"
+unfoldable pub outLine : ℕ → List ℕ
+outLine w = named (111 ∷ 117 ∷ 116 ∷ 32 ∷ []) w ++ newline
+
+unfoldable pub outLines : List ℕ → List ℕ
+outLines [] = []
+outLines (w ∷ ws) = outLine w ++ outLines ws
+
+unfoldable pub netText : Net → List ℕ
+netText net =
+    sizes (net .inputs) (length (net .gates)) (length (net .outs))
+    ++ costs (depth net) (mults net)
+    ++ gateLines (net .inputs) (net .gates)
+    ++ outLines (net .outs)
+
+-- "refused 13" and a newline
+abbrev pub refusal : List ℕ
+refusal = 114 ∷ 101 ∷ 102 ∷ 117 ∷ 115 ∷ 101 ∷ 100 ∷ 32 ∷ 49 ∷ 51 ∷ 10 ∷ []
+
+unfoldable pub thresholdText : ℕ → ℕ → List ℕ
+thresholdText d n = choose (noThreshold d n) refusal (titleLine d n ++ netText (thresholdNet d n))
+
+unfoldable pub textOf : Asked → List ℕ
+textOf Nothing = refusal
+textOf (Line d n) = thresholdText d n
+
+-- what is printed on a whole input
+unfoldable pub printed : List ℕ → List ℕ
+printed input = textOf (askedOf input)
+
+-- For the code: the same text from a netlist's words. I, G and O are those of its header, D its depth, M its
+-- multiplications
+unfoldable pub countedText : List ℕ → ℕ → ℕ → ℕ → ℕ → ℕ → List ℕ
+countedText ws I G O D M =
+    sizes I G O ++ costs D M ++ gateLines I (gatesAt ws 3 G) ++ outLines (drop (gatePlace G) ws)
+
+unfoldable pub wordsText : List ℕ → ℕ → ℕ → List ℕ
+wordsText ws D M = countedText ws (inputsOf ws) (gatesOf ws) (outputsOf ws) D M

@@ -1,0 +1,75 @@
+// Lines of gates: the gate's wire, its kind and the operands that it uses.
+use crate::put::put_bytes;
+use crate::put::put_decimal;
+use crate::put::put_named;
+use netlist::gate::Gate;
+ghost use mathlib.Core.Path.{_≡_};
+ghost use Prim.Native.Nat.{_+_, _≤_};
+ghost use lib.ListN.{length};
+ghost use Rattle.netlist.specs.Words.{gateAt, gatesAt};
+ghost use Rattle.text.specs.Text.{gateText, gateLine, gateLines};
+ghost use Rattle.text.specs.Puts.{Room, Wrote};
+
+fn put_kind(out: &mut [u8], at: usize, gate: Gate) -> usize
+    requires { ⌜ Room (gateText gate) (now out) at ⌝ }
+    ensures { λ r. ⌜ Wrote (gateText gate) (now (out .entry)) at (now (out .exit)) r ⌝ }
+{
+    match gate {
+        Gate::Zero => put_bytes(out, at, b" ZERO"),
+        Gate::One => put_bytes(out, at, b" ONE"),
+        Gate::Not(a) => put_named(out, at, b" NOT ", a),
+        Gate::Xor(a, b) => {
+            let i = put_named(out, at, b" XOR ", a);
+            put_named(out, i, b" ", b)
+        }
+        Gate::And(a, b) => {
+            let i = put_named(out, at, b" AND ", a);
+            put_named(out, i, b" ", b)
+        }
+        Gate::Mux(a, b, c) => {
+            let i = put_named(out, at, b" MUX ", a);
+            let j = put_named(out, i, b" ", b);
+            put_named(out, j, b" ", c)
+        }
+    }
+}
+
+fn put_gate(out: &mut [u8], at: usize, wire: u32, gate: Gate) -> usize
+    requires { ⌜ Room (gateLine wire gate) (now out) at ⌝ }
+    ensures { λ r. ⌜ Wrote (gateLine wire gate) (now (out .entry)) at (now (out .exit)) r ⌝ }
+{
+    let i = put_decimal(out, at, wire);
+    let j = put_kind(out, i, gate);
+    put_bytes(out, j, b"\n")
+}
+
+// The gate whose words begin at a place.
+fn gate_at(words: &[u32], place: usize) -> Gate
+    requires { ⌜ place ≤ 4294967296 ⌝ }
+    ensures { λ r. ⌜ r ≡ gateAt (now (words .entry)) place ⌝ }
+{
+    let kind = answer::word_at(words, place);
+    let a = answer::word_at(words, place + 1);
+    let b = answer::word_at(words, place + 2);
+    let c = answer::word_at(words, place + 3);
+    netlist::gate::decoded(kind, a, b, c)
+}
+
+// The lines of all gates of a netlist's words, the first of which is the wire after the inputs.
+pub(crate) fn put_gates(out: &mut [u8], at: usize, words: &[u32], inputs: u32, gates: u32) -> usize
+    requires { ⌜ inputs + gates ≤ 65536 ⌝ }
+    requires { ⌜ Room (gateLines inputs (gatesAt (now words) 3 gates)) (now out) at ⌝ }
+    ensures { λ r. ⌜ Wrote (gateLines inputs (gatesAt (now (words .entry)) 3 gates)) (now (out .entry)) at (now (out .exit)) r ⌝ }
+{
+    let mut next = at;
+    let mut place: usize = 3;
+    let mut wire = inputs;
+    let mut left = gates;
+    while 0 < left {
+        next = put_gate(out, next, wire, gate_at(words, place));
+        place += 4;
+        wire += 1;
+        left -= 1;
+    }
+    next
+}

@@ -1,0 +1,78 @@
+// A netlist's words as text: its counts, its gates and its output wires.
+use crate::gates::put_gates;
+use crate::put::put_bytes;
+use crate::put::put_named;
+ghost use Prim.Native.Nat.{_+_, _≤_};
+ghost use lib.ListN.{length, drop};
+ghost use Rattle.netlist.specs.Words.{inputsOf, gatesOf};
+ghost use Rattle.text.specs.Text.{titleLine, sizes, costs, outLine, outLines, wordsText};
+ghost use Rattle.text.specs.Puts.{Room, Wrote};
+
+pub(crate) fn put_title(out: &mut [u8], at: usize, d: u32, n: u32) -> usize
+    requires { ⌜ Room (titleLine d n) (now out) at ⌝ }
+    ensures { λ r. ⌜ Wrote (titleLine d n) (now (out .entry)) at (now (out .exit)) r ⌝ }
+{
+    let i = put_named(out, at, b"T ", d);
+    let j = put_named(out, i, b" ", n);
+    put_bytes(out, j, b"\n")
+}
+
+fn put_sizes(out: &mut [u8], at: usize, inputs: u32, gates: u32, outputs: u32) -> usize
+    requires { ⌜ Room (sizes inputs gates outputs) (now out) at ⌝ }
+    ensures { λ r. ⌜ Wrote (sizes inputs gates outputs) (now (out .entry)) at (now (out .exit)) r ⌝ }
+{
+    let i = put_named(out, at, b"in ", inputs);
+    let j = put_named(out, i, b" gates ", gates);
+    put_named(out, j, b" out ", outputs)
+}
+
+fn put_costs(out: &mut [u8], at: usize, depth: u32, multiplications: u32) -> usize
+    requires { ⌜ Room (costs depth multiplications) (now out) at ⌝ }
+    ensures { λ r. ⌜ Wrote (costs depth multiplications) (now (out .entry)) at (now (out .exit)) r ⌝ }
+{
+    let i = put_named(out, at, b" depth ", depth);
+    let j = put_named(out, i, b" mult ", multiplications);
+    put_bytes(out, j, b"\n")
+}
+
+fn put_output(out: &mut [u8], at: usize, wire: u32) -> usize
+    requires { ⌜ Room (outLine wire) (now out) at ⌝ }
+    ensures { λ r. ⌜ Wrote (outLine wire) (now (out .entry)) at (now (out .exit)) r ⌝ }
+{
+    let i = put_named(out, at, b"out ", wire);
+    put_bytes(out, i, b"\n")
+}
+
+// The output wires are the words from a place to the end.
+fn put_outputs(out: &mut [u8], at: usize, words: &[u32], place: usize) -> usize
+    requires { ⌜ Room (outLines (drop place (now words))) (now out) at ⌝ }
+    ensures { λ r. ⌜ Wrote (outLines (drop place (now (words .entry)))) (now (out .entry)) at (now (out .exit)) r ⌝ }
+{
+    let mut next = at;
+    let mut i = place;
+    while i < words.len() {
+        next = put_output(out, next, words[i]);
+        i += 1;
+    }
+    next
+}
+
+pub(crate) fn put_net(
+    out: &mut [u8],
+    at: usize,
+    words: &[u32],
+    depth: u32,
+    multiplications: u32,
+) -> usize
+    requires { ⌜ inputsOf (now words) + gatesOf (now words) ≤ 65536 ⌝ }
+    requires { ⌜ Room (wordsText (now words) depth multiplications) (now out) at ⌝ }
+    ensures { λ r. ⌜ Wrote (wordsText (now (words .entry)) depth multiplications) (now (out .entry)) at (now (out .exit)) r ⌝ }
+{
+    let inputs = answer::word_at(words, 0);
+    let gates = answer::word_at(words, 1);
+    let outputs = answer::word_at(words, 2);
+    let i = put_sizes(out, at, inputs, gates, outputs);
+    let j = put_costs(out, i, depth, multiplications);
+    let k = put_gates(out, j, words, inputs, gates);
+    put_outputs(out, k, words, 3 + 4 * gates as usize)
+}
