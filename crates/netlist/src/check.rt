@@ -4,19 +4,30 @@ use crate::GATE_STRIDE;
 use crate::HEADER_WORDS;
 use crate::gate::Taken;
 use answer::Answer;
+ghost use mathlib.Core.Bool.{false};
 ghost use mathlib.Core.Path.{_≡_};
-ghost use Prim.Native.Nat.{_+_, _*_, _<_, _≤_};
+ghost use Prim.Native.Nat.{ℕ, _+_, _*_, _<_, _≤_};
 ghost use lib.ListN.{length};
+ghost use lib.Dec.{ltb, leb};
+ghost use Rattle.answer.specs.declared.Answer.the-variants.{Done};
+ghost use Rattle.answer.specs.Choose.{choose};
 ghost use Rattle.answer.specs.Answers.{each};
 ghost use Rattle.netlist.specs.Words.{gatePlace};
 ghost use Rattle.netlist.specs.Check.{inputLimit, gateLimit, operandAnswer, wordsAnswer, gateAnswer, outputAnswer, countsAnswer, wiresAnswer, netAnswer};
 
-// An operand of the gate on the given wire: an earlier wire if used; if not, 0, which is below 1.
+// Whether an operand of the gate on the given wire is at fault: a used one is an earlier wire; one that is
+// not is 0, which is below 1.
+fn past(used: bool, wire: u32, x: u32) -> bool
+    ensures { λ r. ⌜ r ≡ choose used (leb wire x) (ltb 0 x) ⌝ }
+{
+    let limit = if used { wire } else { 1 };
+    limit <= x
+}
+
 fn operand(used: bool, wire: u32, x: u32, list: u32, place: usize) -> Answer
     ensures { λ r. ⌜ r ≡ operandAnswer used wire x list place ⌝ }
 {
-    let limit = if used { wire } else { 1 };
-    if limit <= x {
+    if past(used, wire, x) {
         return Answer::Refused {
             number: answer::NETLIST,
             list,
@@ -51,6 +62,40 @@ pub fn words(kind: u32, a: u32, b: u32, c: u32, wire: u32, list: u32, place: u32
     operand(2 < n, wire, c, list, at + 3)
 }
 
+// Whether a word of the gate on the given wire may be at fault: false only where none is. Kinds 2 to 5 use
+// a, 3 to 5 use b, and 5 uses c.
+fn suspect(kind: u32, a: u32, b: u32, c: u32, wire: u32) -> bool
+    ensures { λ r. ⌜ (r ≡ false → (l p : ℕ) → wordsAnswer kind a b c wire l p ≡ Done) ⌝ }
+{
+    let x = past(1 < kind, wire, a);
+    let y = past(2 < kind, wire, b);
+    let z = past(4 < kind, wire, c);
+    (5 < kind) | x | y | z
+}
+
+fn suspect_gate(net: &[u32], inputs: u32, g: u32) -> bool
+    requires { ⌜ (inputs ≤ inputLimit) × (g < gateLimit) × (gatePlace g + 4 ≤ length (now net)) ⌝ }
+    ensures { λ r. ⌜ (r ≡ false → (l : ℕ) → gateAnswer l (now (net .entry)) inputs g ≡ Done) ⌝ }
+{
+    let at = HEADER_WORDS + GATE_STRIDE * (g as usize);
+    suspect(net[at], net[at + 1], net[at + 2], net[at + 3], inputs + g)
+}
+
+// Whether any gate is suspect. The compiler does many at a time, with no branch on a kind, since kinds
+// come in no order.
+fn any_suspect(net: &[u32], inputs: u32, count: u32) -> bool
+    requires { ⌜ (inputs ≤ inputLimit) × (count ≤ gateLimit) × (gatePlace count ≤ length (now net)) ⌝ }
+    ensures { λ r. ⌜ (r ≡ false → (l : ℕ) → each count (gateAnswer l (now (net .entry)) inputs) ≡ Done) ⌝ }
+{
+    let mut any = false;
+    let mut g: u32 = 0;
+    while g < count {
+        any = any | suspect_gate(net, inputs, g);
+        g += 1;
+    }
+    any
+}
+
 fn gate(net: &[u32], inputs: u32, g: u32, list: u32) -> Answer
     requires { ⌜ (inputs ≤ inputLimit) × (g < gateLimit) × (gatePlace g + 4 ≤ length (now net)) ⌝ }
     ensures { λ r. ⌜ r ≡ gateAnswer list (now (net .entry)) inputs g ⌝ }
@@ -78,6 +123,17 @@ fn gates(net: &[u32], inputs: u32, count: u32, list: u32) -> Answer
             return r;
         };
         g += 1;
+    }
+    Answer::Done
+}
+
+// The gates in order: walked only where one is suspect.
+fn all_gates(net: &[u32], inputs: u32, count: u32, list: u32) -> Answer
+    requires { ⌜ (inputs ≤ inputLimit) × (count ≤ gateLimit) × (gatePlace count ≤ length (now net)) ⌝ }
+    ensures { λ r. ⌜ r ≡ each count (gateAnswer list (now (net .entry)) inputs) ⌝ }
+{
+    if any_suspect(net, inputs, count) {
+        return gates(net, inputs, count, list);
     }
     Answer::Done
 }
@@ -137,7 +193,7 @@ fn wires(net: &[u32], inputs: u32, gate_count: u32, output_count: u32, list: u32
     requires { ⌜ (inputs ≤ inputLimit) × («gate_count» ≤ gateLimit) × (gatePlace «gate_count» + «output_count» ≤ length (now net)) ⌝ }
     ensures { λ r. ⌜ r ≡ wiresAnswer list (now (net .entry)) inputs «gate_count» «output_count» ⌝ }
 {
-    let r = gates(net, inputs, gate_count, list);
+    let r = all_gates(net, inputs, gate_count, list);
     let Answer::Done = r else {
         return r;
     };
