@@ -4,21 +4,24 @@ use mathlib.Core.Path.{_≡_, refl, sym, ap, _∙_}
 use mathlib.Core.List.{List, [], _∷_, _++_, map, append-nil, append-assoc}
 use native.Mathlib.Omega.{arith}
 use borrow.Rule.Slice.PartMut.{putMid, post-is}
-use lib.ListN.{length, take, drop, length-map, length-drop, length-take}
+use lib.Dec.{ltb}
+use lib.ListN.{length, getD, take, drop, length-map, length-drop, length-take}
 use lib.Seq.{sets, drop-length, take-all, getD-drop, take-at}
+use Rattle.answer.specs.Choose.{choose}
 use Rattle.answer.specs.Fronts.{over}
 use Rattle.answer.proofs.Over.{length-over, over-sets, over-tail, tail-is}
+use Rattle.netlist.specs.declared.gate.Gate.{Gate}
+use Rattle.netlist.specs.declared.gate.Gate.the-variants.{Zero, One, Not, Xor, And, Mux}
 use Rattle.netlist.specs.Gates.{gateWords}
 use Rattle.netlist.specs.Net.{wiresOf}
 use Rattle.netlist.specs.Words.{inputsOf, gatesOf, outputsOf, gatePlace, gatesWords, gateAt, gatesAt, netOf, words}
 use Rattle.netlist.specs.Glue.{ren, thru, wireOf, glue}
 use Rattle.netlist.specs.Sound.{Sound}
-use Rattle.netlist.proofs.Gates.{gateWords-length}
-use Rattle.netlist.proofs.Sim.{each-map}
+use Rattle.netlist.proofs.Gates.{gateWords-length, operands-low}
 use Rattle.netlist.proofs.Glued.{map-append, glue-gates, glue-outputs}
 use Rattle.netlist.proofs.Words.{gates-length, gates-snoc, gatesWords-length, gatesWords-append, gatesWords-snoc, outs-length, words-netOf}
 use Rattle.glue.specs.Glue.{gluedWords}
-use Rattle.glue.specs.Parts.{Small, SmallAll, secondWords, Second, Fit}
+use Rattle.glue.specs.Parts.{SmallAll, secondWords, Second, Fit}
 
 -- The part of a slice from a on, when it is lent and when it is back.
 pub put-tail : (a : ℕ) (xs ys : List ℕ) → a ≤ length xs → putMid a (length xs - a) xs ys ≡ take a xs ++ ys
@@ -36,6 +39,16 @@ wrote-tail front w old n {out} {part} e h o k p =
 -- a front keeps the list's length
 pub kept-length : (front old : List ℕ) {out : List ℕ} → out ≡ over front old → length front ≤ length old → length out ≡ length old
 kept-length front old e h = ap length e ∙ length-over front old h
+
+-- a gate's words renamed: those of the operands that its kind uses
+pub renamed-words : (f : ℕ → ℕ) (g : Gate) (k a b c : ℕ) → gateWords g ≡ k ∷ a ∷ b ∷ c ∷ []
+    → gateWords (ren f g) ≡ k ∷ choose (ltb 1 k) (f a) 0 ∷ choose (ltb 2 k) (f b) 0 ∷ choose (ltb 4 k) (f c) 0 ∷ []
+renamed-words f Zero k a b c e = let h : k ≡ 0 = cc in rw h
+renamed-words f One k a b c e = let h : k ≡ 1 = cc in rw h
+renamed-words f (Not x) k a b c e = let h : k ≡ 2 = cc in let p : a ≡ x = cc in rw (h, p)
+renamed-words f (Xor x y) k a b c e = let h : k ≡ 3 = cc in let p : a ≡ x = cc in let q : b ≡ y = cc in rw (h, p, q)
+renamed-words f (And x y) k a b c e = let h : k ≡ 4 = cc in let p : a ≡ x = cc in let q : b ≡ y = cc in rw (h, p, q)
+renamed-words f (Mux x y z) k a b c e = let h : k ≡ 5 = cc in let p : a ≡ x = cc in let q : b ≡ y = cc in let r : c ≡ z = cc in rw (h, p, q, r)
 
 -- The gates of the second netlist.
 module _ (b outs : List ℕ) (base : ℕ) (old : List ℕ) where
@@ -56,10 +69,22 @@ module _ (b outs : List ℕ) (base : ℕ) (old : List ℕ) where
       (sym (gatesWords-snoc (map f (gatesAt b 3 g)) d)
       ∙ ap gatesWords (sym (map-append f (gatesAt b 3 g) _) ∙ ap (map f) (sym (gates-snoc b 3 g))))
 
--- behind few wires the operands of a sound gate stay words
-pub small-gate : (b : List ℕ) (base room g : ℕ) → Second b base room → g < gatesOf b → Small base (gateAt b (3 + 4 * g))
+  -- one more gate, by its words
+  pub words-more : (room g : ℕ) {out : List ℕ} {x y z : ℕ} → Second b base room → g < gatesOf b → 4 * g + 4 ≤ length old → out ≡ over (written g) old
+      → x ≡ choose (ltb 1 (getD b (gatePlace g) 0)) (thru outs base (getD b (gatePlace g + 1) 0)) 0
+      → y ≡ choose (ltb 2 (getD b (gatePlace g) 0)) (thru outs base (getD b (gatePlace g + 2) 0)) 0
+      → z ≡ choose (ltb 4 (getD b (gatePlace g) 0)) (thru outs base (getD b (gatePlace g + 3) 0)) 0
+      → sets out (4 * g) (getD b (gatePlace g) 0 ∷ x ∷ y ∷ z ∷ []) ≡ over (written (g + 1)) old
+  words-more room g {out} {x} {y} {z} s h r o ex ey ez =
+      let w : getD b (gatePlace g) 0 ∷ x ∷ y ∷ z ∷ [] ≡ gateWords (ren (thru outs base) (gateAt b (gatePlace g))) =
+      rw (ex, ey, ez) (sym (renamed-words (thru outs base) (gateAt b (gatePlace g)) _ _ _ _ (s .sound .whole g h))) in
+      ap (sets out (4 * g)) w ∙ ap (λ (t : List ℕ). sets t (4 * g) (gateWords (ren (thru outs base) (gateAt b (gatePlace g))))) o ∙ written-more g r
+
+-- behind few wires the operand words of a sound gate stay words
+pub small-gate : (b : List ℕ) (base room g : ℕ) → Second b base room → g < gatesOf b
+    → (base + getD b (gatePlace g + 1) 0 < 4294967296) × (base + getD b (gatePlace g + 2) 0 < 4294967296) × (base + getD b (gatePlace g + 3) 0 < 4294967296)
 small-gate b base room g s h =
-    each-map (gateAt b (3 + 4 * g)) (λ a k. omega (arith, s .few, s .sound .limits)) (s .sound .uses g h)
+    omega (arith, operands-low _ _ _ _ _ (s .sound .uses g h) (s .sound .whole g h), s .few, s .sound .limits)
 
 pub small-outs : (b : List ℕ) (base room : ℕ) → Second b base room → SmallAll base (drop (gatePlace (gatesOf b)) b)
 small-outs b base room s i h =

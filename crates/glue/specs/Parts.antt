@@ -1,24 +1,15 @@
 -- What the writers of the parts of a glued netlist are lent and write.
 use Prim.Native.Nat.{ℕ, _+_, _*_, _<_, _≤_}
 use mathlib.Core.Path.{_≡_}
-use mathlib.Core.List.{List, [], _∷_, _++_, map}
+use mathlib.Core.List.{List, _++_, map}
 use lib.ListN.{length, getD, drop}
-use Rattle.netlist.specs.declared.gate.Gate.{Gate}
-use Rattle.netlist.specs.Net.{Each}
 use Rattle.netlist.specs.Words.{inputsOf, gatesOf, outputsOf, gatePlace, gatesWords, gatesAt}
 use Rattle.netlist.specs.Glue.{ren, thru}
 use Rattle.netlist.specs.Check.{gateLimit}
 use Rattle.netlist.specs.Sound.{Sound}
-use Rattle.glue.specs.declared.Quad.{Quad}
 use Rattle.glue.specs.Glue.{gluedSize}
 
-abbrev pub quadWords : Quad → List ℕ
-quadWords q = q .kind ∷ q .a ∷ q .b ∷ q .c ∷ []
-
--- behind base wires, the operands of a gate, or some wires, are still words
-abbrev pub Small : ℕ → Gate → Type 0
-Small base g = Each (λ a. base + a < 4294967296) g
-
+-- behind base wires, some wires are still words
 abbrev pub SmallAll : ℕ → List ℕ → Type 0
 SmallAll base wires = (i : ℕ) → i < length wires → base + getD wires i 0 < 4294967296
 

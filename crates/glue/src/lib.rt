@@ -4,18 +4,17 @@
 use answer::Answer;
 use netlist::GATE_STRIDE;
 use netlist::HEADER_WORDS;
-use netlist::gate::Gate;
 ghost use mathlib.Core.Path.{_≡_};
 ghost use mathlib.Core.List.{[], _∷_, _++_, map};
 ghost use Prim.Native.Nat.{_+_, _<_, _≤_};
 ghost use lib.ListN.{length, drop};
 ghost use lib.Seq.{sets};
+ghost use Rattle.answer.specs.Choose.{choose};
 ghost use Rattle.answer.specs.Fronts.{over};
-ghost use Rattle.netlist.specs.Gates.{gateWords};
 ghost use Rattle.netlist.specs.Words.{gatesOf, gatePlace, gatesWords, gatesAt};
 ghost use Rattle.netlist.specs.Glue.{thru, ren};
 ghost use Rattle.glue.specs.Glue.{glueAnswer, gluedWords, GluedAs};
-ghost use Rattle.glue.specs.Parts.{Small, SmallAll, quadWords, secondWords, Second, Fit};
+ghost use Rattle.glue.specs.Parts.{SmallAll, secondWords, Second, Fit};
 
 // Where wire i of the second netlist stands: outs are the first's outputs, base the number of its wires.
 fn wire(outs: &[u32], base: u32, i: u32) -> u32
@@ -30,64 +29,28 @@ fn wire(outs: &[u32], base: u32, i: u32) -> u32
     base + (k - outs.len()) as u32
 }
 
-// A gate of the second netlist over the wires of the glued one.
-fn renamed(outs: &[u32], base: u32, gate: Gate) -> Gate
-    requires { ⌜ Small base gate ⌝ }
-    ensures { λ r. ⌜ r ≡ ren (thru (now (outs .entry)) base) gate ⌝ }
+// An operand of a gate of the second netlist over the wires of the glued one; one that is not used is 0.
+fn operand(outs: &[u32], base: u32, used: bool, i: u32) -> u32
+    requires { ⌜ base + i < 4294967296 ⌝ }
+    ensures { λ r. ⌜ r ≡ choose used (thru (now (outs .entry)) base i) 0 ⌝ }
 {
-    match gate {
-        Gate::Zero => Gate::Zero,
-        Gate::One => Gate::One,
-        Gate::Not(a) => Gate::Not(wire(outs, base, a)),
-        Gate::Xor(a, b) => Gate::Xor(wire(outs, base, a), wire(outs, base, b)),
-        Gate::And(a, b) => Gate::And(wire(outs, base, a), wire(outs, base, b)),
-        Gate::Mux(a, b, c) => Gate::Mux(
-            wire(outs, base, a),
-            wire(outs, base, b),
-            wire(outs, base, c),
-        ),
+    if used {
+        return wire(outs, base, i);
     }
+    0
 }
 
-// A gate's four words.
-struct Quad {
-    kind: u32,
-    a: u32,
-    b: u32,
-    c: u32,
-}
-
-fn four(kind: u32, a: u32, b: u32, c: u32) -> Quad
-    ensures { λ r. ⌜ quadWords r ≡ kind ∷ a ∷ b ∷ c ∷ [] ⌝ }
-{
-    Quad { kind, a, b, c }
-}
-
-fn words_of(gate: Gate) -> Quad
-    ensures { λ r. ⌜ quadWords r ≡ gateWords gate ⌝ }
-{
-    match gate {
-        Gate::Zero => four(0, 0, 0, 0),
-        Gate::One => four(1, 0, 0, 0),
-        Gate::Not(a) => four(2, a, 0, 0),
-        Gate::Xor(a, b) => four(3, a, b, 0),
-        Gate::And(a, b) => four(4, a, b, 0),
-        Gate::Mux(a, b, c) => four(5, a, b, c),
-    }
-}
-
-fn put_gate(out: &mut [u32], at: usize, gate: Gate)
+fn put_gate(out: &mut [u32], at: usize, kind: u32, a: u32, b: u32, c: u32)
     requires { ⌜ at + 4 ≤ length (now out) ⌝ }
-    ensures { λ r. ⌜ now (out .exit) ≡ sets (now (out .entry)) at (gateWords gate) ⌝ }
+    ensures { λ r. ⌜ now (out .exit) ≡ sets (now (out .entry)) at (kind ∷ a ∷ b ∷ c ∷ []) ⌝ }
 {
-    let q = words_of(gate);
-    out[at] = q.kind;
-    out[at + 1] = q.a;
-    out[at + 2] = q.b;
-    out[at + 3] = q.c;
+    out[at] = kind;
+    out[at + 1] = a;
+    out[at + 2] = b;
+    out[at + 3] = c;
 }
 
-// The second netlist's gates.
+// The second netlist's gates. Kinds 2 to 5 use a, 3 to 5 use b, and 5 uses c.
 fn put_gates(second: &[u32], gates: usize, outs: &[u32], base: u32, out: &mut [u32])
     requires { ⌜ (Second (now second) base (length (now out))) × (gates ≡ gatesOf (now second)) ⌝ }
     ensures { λ r. ⌜ now (out .exit) ≡ over (gatesWords (map (ren (thru (now (outs .entry)) base)) (gatesAt (now (second .entry)) 3 gates))) (now (out .entry)) ⌝ }
@@ -95,9 +58,11 @@ fn put_gates(second: &[u32], gates: usize, outs: &[u32], base: u32, out: &mut [u
     let mut g: usize = 0;
     while g < gates {
         let at = HEADER_WORDS + GATE_STRIDE * g;
-        let d = netlist::gate::decoded(second[at], second[at + 1], second[at + 2], second[at + 3]);
-        let e = renamed(outs, base, d);
-        put_gate(out, GATE_STRIDE * g, e);
+        let kind = second[at];
+        let a = operand(outs, base, 1 < kind, second[at + 1]);
+        let b = operand(outs, base, 2 < kind, second[at + 2]);
+        let c = operand(outs, base, 4 < kind, second[at + 3]);
+        put_gate(out, GATE_STRIDE * g, kind, a, b, c);
         g += 1;
     }
 }

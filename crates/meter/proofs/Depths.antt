@@ -11,7 +11,7 @@ use Rattle.answer.specs.Fronts.{over}
 use Rattle.answer.proofs.Over.{over-next, over-at, over-over, length-over, take-over}
 use Rattle.netlist.specs.declared.gate.Gate.{Gate}
 use Rattle.netlist.specs.declared.gate.Gate.the-variants.{Zero, One, Not, Xor, And, Mux}
-use Rattle.netlist.specs.Gates.{takenOf, gateOf, codeOf}
+use Rattle.netlist.specs.Gates.{takenOf, gateWords, gateOf}
 use Rattle.netlist.specs.Net.{Net, Alg, at, step, run, depAlg, maxOf, depths, depth, wiresOf, Each, Uses}
 use Rattle.netlist.specs.Words.{inputsOf, gatesOf, gatePlace, gateAt, gatesAt, netOf}
 use Rattle.netlist.specs.Check.{gateLimit}
@@ -98,27 +98,36 @@ pub gates-start : {net : List ℕ} {i n : ℕ} {ds : List ℕ} → Lent net i n 
 unfolding depthsTo
 gates-start {net} {i} {n} {ds} s e = e ∙ ap (λ (k : ℕ). over (replicate k 0) ds) (s .inputs)
 
--- the depth that a gate's words k, a, b, c give, where wires have the depths v
-deep-right : (k a b c : ℕ) (v : List ℕ)
-    → deepest (gateOf k a b c) (getD v a 0) (getD v b 0) (getD v c 0) + codeOf (gateOf k a b c) / 4 ≡ step depAlg v (gateOf k a b c)
+-- the depth that the words k, a, b, c of a gate give, where wires have the depths v
+deep-right : (k a b c : ℕ) (v : List ℕ) → k ≤ 5
+    → deepest k (getD v a 0) (getD v b 0) (getD v c 0) + k / 4 ≡ step depAlg v (gateOf k a b c)
 unfolding deepest gateOf takenOf
-deep-right zero a b c v = refl
-deep-right (suc zero) a b c v = refl
-deep-right (suc (suc zero)) a b c v = omega arith
-deep-right (suc (suc (suc zero))) a b c v = omega arith
-deep-right (suc (suc (suc (suc zero)))) a b c v = omega arith
-deep-right (suc (suc (suc (suc (suc zero))))) a b c v = omega arith
-deep-right (suc (suc (suc (suc (suc (suc k)))))) a b c v = refl
+deep-right zero a b c v h = refl
+deep-right (suc zero) a b c v h = refl
+deep-right (suc (suc zero)) a b c v h = omega arith
+deep-right (suc (suc (suc zero))) a b c v h = omega arith
+deep-right (suc (suc (suc (suc zero)))) a b c v h = omega arith
+deep-right (suc (suc (suc (suc (suc zero))))) a b c v h = omega arith
+deep-right (suc (suc (suc (suc (suc (suc k)))))) a b c v h = absurd (omega arith)
 
-deep-low : (k a b c m : ℕ) (v : List ℕ) → Each (λ i. getD v i 0 ≤ m) (gateOf k a b c) → deepest (gateOf k a b c) (getD v a 0) (getD v b 0) (getD v c 0) ≤ m
+deep-low : (k a b c m : ℕ) (v : List ℕ) → k ≤ 5 → Each (λ i. getD v i 0 ≤ m) (gateOf k a b c) → deepest k (getD v a 0) (getD v b 0) (getD v c 0) ≤ m
 unfolding deepest gateOf takenOf
-deep-low zero a b c m v u = omega arith
-deep-low (suc zero) a b c m v u = omega arith
-deep-low (suc (suc zero)) a b c m v u = omega (arith, u)
-deep-low (suc (suc (suc zero))) a b c m v u = omega (arith, u)
-deep-low (suc (suc (suc (suc zero)))) a b c m v u = omega (arith, u)
-deep-low (suc (suc (suc (suc (suc zero))))) a b c m v u = omega (arith, u)
-deep-low (suc (suc (suc (suc (suc (suc k)))))) a b c m v u = omega arith
+deep-low zero a b c m v h u = omega arith
+deep-low (suc zero) a b c m v h u = omega arith
+deep-low (suc (suc zero)) a b c m v h u = omega (arith, u)
+deep-low (suc (suc (suc zero))) a b c m v h u = omega (arith, u)
+deep-low (suc (suc (suc (suc zero)))) a b c m v h u = omega (arith, u)
+deep-low (suc (suc (suc (suc (suc zero))))) a b c m v h u = omega (arith, u)
+deep-low (suc (suc (suc (suc (suc (suc k)))))) a b c m v h u = absurd (omega arith)
+
+-- a gate's words are of one of the six kinds
+kind-low : (g : Gate) (k a b c : ℕ) → gateWords g ≡ k ∷ a ∷ b ∷ c ∷ [] → k ≤ 5
+kind-low Zero k a b c e = let h : k ≡ 0 = cc in omega arith
+kind-low One k a b c e = let h : k ≡ 1 = cc in omega arith
+kind-low (Not x) k a b c e = let h : k ≡ 2 = cc in omega arith
+kind-low (Xor x y) k a b c e = let h : k ≡ 3 = cc in omega arith
+kind-low (And x y) k a b c e = let h : k ≡ 4 = cc in omega arith
+kind-low (Mux x y z) k a b c e = let h : k ≡ 5 = cc in omega arith
 
 module _ {net : List ℕ} {i n : ℕ} {old : List ℕ} (s : Lent net i n old) (g : ℕ) (less : g < n) {out : List ℕ} (e : out ≡ over (depthsTo net g) old) where
   front-length : length (depthsTo net g) ≡ i + g
@@ -133,20 +142,23 @@ module _ {net : List ℕ} {i n : ℕ} {old : List ℕ} (s : Lent net i n old) (g
       let h : g < gatesOf net = omega (arith, s .gates) in
       rw (s .inputs) (operands-low _ _ _ _ _ (s .sound .uses g h) (s .sound .whole g h))
 
-  pub gate-low : deepest (gateAt net (gatePlace g)) (getD out (getD net (gatePlace g + 1) 0) 0) (getD out (getD net (gatePlace g + 2) 0) 0) (getD out (getD net (gatePlace g + 3) 0) 0) ≤ gateLimit
+  pub kind : getD net (gatePlace g) 0 ≤ 5
+  kind = kind-low (gateAt net (gatePlace g)) _ _ _ _ (s .sound .whole g (omega (arith, s .gates)))
+
+  pub gate-low : deepest (getD net (gatePlace g) 0) (getD out (getD net (gatePlace g + 1) 0) 0) (getD out (getD net (gatePlace g + 2) 0) 0) (getD out (getD net (gatePlace g + 3) 0) 0) ≤ gateLimit
   gate-low =
-      deep-low _ _ _ _ gateLimit out
+      deep-low _ _ _ _ gateLimit out kind
       (each-map (gateAt net (gatePlace g))
       (λ a k. let r : getD out a 0 ≡ getD (depthsTo net g) a 0 = rw e (over-at (depthsTo net g) old a k) in
       omega (arith, depths-le net g a, s .gates, s .sound .limits .gates))
       uses)
 
   pub gate-more : {v : ℕ}
-      → v ≡ deepest (gateAt net (gatePlace g)) (getD out (getD net (gatePlace g + 1) 0) 0) (getD out (getD net (gatePlace g + 2) 0) 0) (getD out (getD net (gatePlace g + 3) 0) 0) + codeOf (gateAt net (gatePlace g)) / 4
+      → v ≡ deepest (getD net (gatePlace g) 0) (getD out (getD net (gatePlace g + 1) 0) 0) (getD out (getD net (gatePlace g + 2) 0) 0) (getD out (getD net (gatePlace g + 3) 0) 0) + getD net (gatePlace g) 0 / 4
       → set out (i + g) v ≡ over (depthsTo net (g + 1)) old
   gate-more {v} h =
       let d = gateAt net (gatePlace g) in
-      let deep : v ≡ step depAlg (depthsTo net g) d = h ∙ deep-right _ _ _ _ out ∙ ap (λ (o : List ℕ). step depAlg o d) e ∙ step-over (depthsTo net g) old d uses in
+      let deep : v ≡ step depAlg (depthsTo net g) d = h ∙ deep-right _ _ _ _ out kind ∙ ap (λ (o : List ℕ). step depAlg o d) e ∙ step-over (depthsTo net g) old d uses in
       let whole : depthsTo net g ++ v ∷ [] ≡ depthsTo net (g + 1) = rw deep (sym (depths-more net g)) in
       rw e
       (over-next (depthsTo net g) old (i + g) v front-length (omega (arith, s .room))

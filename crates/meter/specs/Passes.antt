@@ -6,8 +6,6 @@ use lib.ListN.{length, replicate}
 use lib.Dec.{ltb}
 use Rattle.answer.specs.Choose.{choose}
 use Rattle.answer.specs.Fronts.{left}
-use Rattle.netlist.specs.declared.gate.Gate.{Gate}
-use Rattle.netlist.specs.Gates.{usesOf}
 use Rattle.netlist.specs.Net.{run, depAlg, depths, depth}
 use Rattle.netlist.specs.Words.{headerWords, inputsOf, gatesOf, gatesAt, netOf}
 use Rattle.netlist.specs.Sound.{Sound}
@@ -15,10 +13,9 @@ use Rattle.meter.specs.declared.Measured.{Measured}
 use Rattle.meter.specs.Levels.{levelCount}
 use Rattle.meter.specs.Meter.{depthsAnswer, ifDone}
 
--- the largest of the depths x, y and z of a gate's operand words, of those that it uses
-unfoldable pub deepest : Gate → ℕ → ℕ → ℕ → ℕ
-deepest g x y z =
-    max (choose (ltb 0 (usesOf g)) x 0) (max (choose (ltb 1 (usesOf g)) y 0) (choose (ltb 2 (usesOf g)) z 0))
+-- the largest of the depths x, y and z of the operand words of a gate of kind k, of those that it uses
+unfoldable pub deepest : ℕ → ℕ → ℕ → ℕ → ℕ
+deepest k x y z = max (choose (ltb 1 k) x 0) (max (choose (ltb 2 k) y 0) (choose (ltb 4 k) z 0))
 
 -- the depths of the inputs and of the first g gates
 unfoldable pub depthsTo : List ℕ → ℕ → List ℕ

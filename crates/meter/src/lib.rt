@@ -5,7 +5,6 @@ use answer::Answer;
 use netlist::GATE_STRIDE;
 use netlist::HEADER_WORDS;
 use netlist::gate::AND_KIND;
-use netlist::gate::Gate;
 use netlist::gate::MUX_KIND;
 ghost use mathlib.Core.Path.{_≡_};
 ghost use mathlib.Core.List.{map};
@@ -15,7 +14,6 @@ ghost use lib.Dec.{ltb, eqb};
 ghost use Rattle.answer.specs.Answers.{_▹_, refuse};
 ghost use Rattle.answer.specs.Choose.{choose};
 ghost use Rattle.answer.specs.Fronts.{over};
-ghost use Rattle.netlist.specs.Gates.{codeOf};
 ghost use Rattle.netlist.specs.Net.{at, depAlg, maxOf};
 ghost use Rattle.netlist.specs.Words.{inputsOf, gatesOf, netOf};
 ghost use Rattle.netlist.specs.Check.{gateLimit};
@@ -51,17 +49,18 @@ fn counted(used: bool, depth: u32) -> u32
     if used { depth } else { 0 }
 }
 
-// The depth of a gate whose operand words name wires of depth x, y and z; those that it does not use do not
-// count. Kinds 4 and 5, AND and MUX, are one deeper than their deepest operand.
-fn gate_depth(gate: Gate, x: u32, y: u32, z: u32) -> u32
-    requires { ⌜ deepest gate x y z ≤ gateLimit ⌝ }
-    ensures { λ r. ⌜ r ≡ deepest gate x y z + codeOf gate / 4 ⌝ }
+// The depth of a gate of the given kind whose operand words name wires of depth x, y and z; those that it
+// does not use do not count. Kinds 2 to 5 use a, 3 to 5 use b, and 5 uses c; kinds 4 and 5, AND and MUX, are
+// one deeper than their deepest operand. The kind is a number here, since a branch on it would be dear:
+// kinds come in no order.
+fn gate_depth(kind: u32, x: u32, y: u32, z: u32) -> u32
+    requires { ⌜ (kind ≤ 5) × (deepest kind x y z ≤ gateLimit) ⌝ }
+    ensures { λ r. ⌜ r ≡ deepest kind x y z + kind / 4 ⌝ }
 {
-    let n = netlist::gate::uses(gate);
-    let first = counted(0 < n, x);
-    let second = counted(1 < n, y);
-    let third = counted(2 < n, z);
-    larger(first, larger(second, third)) + netlist::gate::code(gate) / 4
+    let first = counted(1 < kind, x);
+    let second = counted(2 < kind, y);
+    let third = counted(4 < kind, z);
+    larger(first, larger(second, third)) + kind / 4
 }
 
 // The first count words 0.
@@ -84,14 +83,11 @@ fn put_gates(net: &[u32], depths: &mut [u32], inputs: usize, gates: usize)
     let mut g: usize = 0;
     while g < gates {
         let at = HEADER_WORDS + GATE_STRIDE * g;
-        let a = net[at + 1];
-        let b = net[at + 2];
-        let c = net[at + 3];
-        let gate = netlist::gate::decoded(net[at], a, b, c);
-        let i = a as usize;
-        let j = b as usize;
-        let k = c as usize;
-        let deep = gate_depth(gate, depths[i], depths[j], depths[k]);
+        let kind = net[at];
+        let i = net[at + 1] as usize;
+        let j = net[at + 2] as usize;
+        let k = net[at + 3] as usize;
+        let deep = gate_depth(kind, depths[i], depths[j], depths[k]);
         let wire = inputs + g;
         depths[wire] = deep;
         g += 1;

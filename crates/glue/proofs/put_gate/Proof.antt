@@ -5,9 +5,6 @@ use borrow.Author.Needs.{needs}
 use Rattle.glue.proofs.put_gate.Statement.{statement}
 use Rattle.glue.proofs.put_gate.Tie as tie
 
-words-of-requires : tie.Need-words-of-requires
-words-of-requires c κs = search needs
-
 mul-out : tie.Need-mul-out
 mul-out c = search needs
 
@@ -45,13 +42,12 @@ same-length : tie.Need-same-length
 same-length c = simp length-set
 
 returns : tie.Need-returns
-returns c = rw (← (c .words-of .ensures)) (simp towards-suc)
+returns c = simp towards-suc
 
 pub put-gate-spec : {M : Type 1} → statement M
 put-gate-spec =
     tie.close
     (tie.spec
-    words-of-requires
     mul-out
     slice-write-out
     add-out

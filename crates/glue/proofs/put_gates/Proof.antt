@@ -7,7 +7,7 @@ use Rattle.answer.specs.Fronts.{over}
 use Rattle.answer.proofs.Over.{length-over}
 use Rattle.netlist.specs.Words.{gatesWords, gatesAt}
 use Rattle.netlist.specs.Glue.{ren, thru}
-use Rattle.glue.proofs.Parts.{written-length, written-more, small-gate}
+use Rattle.glue.proofs.Parts.{written-length, words-more, small-gate}
 use borrow.Author.Needs.{needs}
 use Rattle.glue.proofs.put_gates.Statement.{statement}
 use Rattle.glue.proofs.put_gates.Tie as tie
@@ -28,47 +28,56 @@ mul-at c = search needs
 add-at : tie.Need-add-at Inv-loop μ-loop
 add-at c = search needs
 
-mul-decoded : tie.Need-mul-decoded Inv-loop μ-loop
-mul-decoded c = search needs
+mul-kind : tie.Need-mul-kind Inv-loop μ-loop
+mul-kind c = search needs
 
-shared-slice-read-decoded : tie.Need-shared-slice-read-decoded Inv-loop μ-loop
-shared-slice-read-decoded c = search needs
+shared-slice-read-kind : tie.Need-shared-slice-read-kind Inv-loop μ-loop
+shared-slice-read-kind c = search needs
 
-add-decoded : tie.Need-add-decoded Inv-loop μ-loop
-add-decoded c = search needs
+add-operand : tie.Need-add-operand Inv-loop μ-loop
+add-operand c = search needs
 
-mul-decoded-2 : tie.Need-mul-decoded-2 Inv-loop μ-loop
-mul-decoded-2 c = search needs
+mul-operand : tie.Need-mul-operand Inv-loop μ-loop
+mul-operand c = search needs
 
-shared-slice-read-decoded-2 : tie.Need-shared-slice-read-decoded-2 Inv-loop μ-loop
-shared-slice-read-decoded-2 c = search needs
+shared-slice-read-operand : tie.Need-shared-slice-read-operand Inv-loop μ-loop
+shared-slice-read-operand c = search needs
 
-add-decoded-2 : tie.Need-add-decoded-2 Inv-loop μ-loop
-add-decoded-2 c = search needs
+operand-requires : tie.Need-operand-requires Inv-loop μ-loop
+operand-requires c κs =
+    let t = c .before .before in
+    let s = t .before .before .before .before .before in
+    small-gate (s .args .second .now) (s .args .base) _ (t .before .loop .g) (s .pre .0) (search needs) .0
 
-mul-decoded-3 : tie.Need-mul-decoded-3 Inv-loop μ-loop
-mul-decoded-3 c = search needs
+add-operand-2 : tie.Need-add-operand-2 Inv-loop μ-loop
+add-operand-2 c = search needs
 
-shared-slice-read-decoded-3 : tie.Need-shared-slice-read-decoded-3 Inv-loop μ-loop
-shared-slice-read-decoded-3 c = search needs
+mul-operand-2 : tie.Need-mul-operand-2 Inv-loop μ-loop
+mul-operand-2 c = search needs
 
-add-decoded-3 : tie.Need-add-decoded-3 Inv-loop μ-loop
-add-decoded-3 c = search needs
+shared-slice-read-operand-2 : tie.Need-shared-slice-read-operand-2 Inv-loop μ-loop
+shared-slice-read-operand-2 c = search needs
 
-mul-decoded-4 : tie.Need-mul-decoded-4 Inv-loop μ-loop
-mul-decoded-4 c = search needs
+operand-requires-2 : tie.Need-operand-requires-2 Inv-loop μ-loop
+operand-requires-2 c κs =
+    let t = c .before .before .before .before in
+    let s = t .before .before .before .before .before in
+    small-gate (s .args .second .now) (s .args .base) _ (t .before .loop .g) (s .pre .0) (search needs) .1
 
-shared-slice-read-decoded-4 : tie.Need-shared-slice-read-decoded-4 Inv-loop μ-loop
-shared-slice-read-decoded-4 c = search needs
+add-operand-3 : tie.Need-add-operand-3 Inv-loop μ-loop
+add-operand-3 c = search needs
 
-decoded-requires : tie.Need-decoded-requires Inv-loop μ-loop
-decoded-requires c κs = search needs
+mul-operand-3 : tie.Need-mul-operand-3 Inv-loop μ-loop
+mul-operand-3 c = search needs
 
-renamed-requires : tie.Need-renamed-requires Inv-loop μ-loop
-renamed-requires c κs =
-    let l = c .before .before .before .before .before .before .loop in
-    let s = c .before .before .before .before .before .before .before .before .before .before in
-    rw (c .decoded .ensures) (small-gate (s .args .second .now) (s .args .base) _ (l .g) (s .pre .0) (search needs))
+shared-slice-read-operand-3 : tie.Need-shared-slice-read-operand-3 Inv-loop μ-loop
+shared-slice-read-operand-3 c = search needs
+
+operand-requires-3 : tie.Need-operand-requires-3 Inv-loop μ-loop
+operand-requires-3 c κs =
+    let t = c .before .before .before .before .before .before in
+    let s = t .before .before .before .before .before in
+    small-gate (s .args .second .now) (s .args .base) _ (t .before .loop .g) (s .pre .0) (search needs) .2
 
 mul-put-gate : tie.Need-mul-put-gate Inv-loop μ-loop
 mul-put-gate c = search needs
@@ -84,11 +93,12 @@ loop-less c = search needs
 
 loop-again : tie.Need-loop-again Inv-loop μ-loop
 loop-again c =
-    let l = c .before .before .before .before .before .before .before .before .before .before .before .loop in
-    let a = c .before .before .before .before .before .before .before .before .before .before .before .before .before .before .before .args in
+    let l = c .before .before .before .before .before .before .before .before .before .before .before .before .loop in
+    let s = c .before .before .before .before .before .before .before .before .before .before .before .before .before .before .before .before in
+    let a = s .args in
     let e : c .before .before .put-gate .last .0 ≡ over (gatesWords (map (ren (thru (a .outs .now) (a .base))) (gatesAt (a .second .now) 3 (l .g + 1)))) (a .out .now) =
-    rw (c .before .before .put-gate .ensures, c .before .before .before .before .renamed .ensures, c .before .before .before .before .before .decoded .ensures, l .inv .0)
-    (written-more (a .second .now) (a .outs .now) (a .base) (a .out .now) (l .g) (search needs)) in
+    c .before .before .put-gate .ensures
+    ∙ words-more (a .second .now) (a .outs .now) (a .base) (a .out .now) _ (l .g) (s .pre .0) (search needs) (search needs) (l .inv .0) (c .before .before .before .before .before .before .before .before .operand .ensures) (c .before .before .before .before .before .before .operand2 .ensures) (c .before .before .before .before .operand3 .ensures) in
     (e, search needs, ap length e ∙ length-over _ (a .out .now) (omega (arith, written-length (a .second .now) (a .outs .now) (a .base) (a .out .now) (l .g + 1))))
 
 same-length : tie.Need-same-length Inv-loop μ-loop
@@ -108,19 +118,20 @@ put-gates-spec =
     loop-holds
     mul-at
     add-at
-    mul-decoded
-    shared-slice-read-decoded
-    add-decoded
-    mul-decoded-2
-    shared-slice-read-decoded-2
-    add-decoded-2
-    mul-decoded-3
-    shared-slice-read-decoded-3
-    add-decoded-3
-    mul-decoded-4
-    shared-slice-read-decoded-4
-    decoded-requires
-    renamed-requires
+    mul-kind
+    shared-slice-read-kind
+    add-operand
+    mul-operand
+    shared-slice-read-operand
+    operand-requires
+    add-operand-2
+    mul-operand-2
+    shared-slice-read-operand-2
+    operand-requires-2
+    add-operand-3
+    mul-operand-3
+    shared-slice-read-operand-3
+    operand-requires-3
     mul-put-gate
     put-gate-requires
     add-g

@@ -6,7 +6,7 @@ use lib.ListN.{length, getD}
 use Rattle.answer.specs.Fronts.{over}
 use Rattle.netlist.specs.Words.{gatePlace}
 use Rattle.meter.specs.Passes.{depthsTo}
-use Rattle.meter.proofs.Depths.{gates-start, operands, gate-low, gate-more}
+use Rattle.meter.proofs.Depths.{gates-start, operands, kind, gate-low, gate-more}
 use borrow.Author.Needs.{needs}
 use Rattle.meter.proofs.put_gates.Statement.{statement}
 use Rattle.meter.proofs.put_gates.Tie as tie
@@ -18,12 +18,12 @@ abbrev μ-loop : tie.MeasureT-loop
 μ-loop net depths₀ inputs gates g₀ depths g = gates - g
 
 -- no operand word is past the gate's own wire
-low : (c : tie.After-decoded Inv-loop μ-loop) →
-    let l = c .before .before .before .before .before .before .loop in
-    let a = c .before .before .before .before .before .before .before .before .before .args in
+low : (c : tie.In-loop Inv-loop μ-loop) →
+    let l = c .before .loop in
+    let a = c .before .before .before .before .args in
     let w = a .inputs + l .g in
     (getD (a .net .now) (gatePlace (l .g) + 1) 0 ≤ w) × (getD (a .net .now) (gatePlace (l .g) + 2) 0 ≤ w) × (getD (a .net .now) (gatePlace (l .g) + 3) 0 ≤ w)
-low c = operands (c .before .before .before .before .before .before .before .before .before .pre .0) _ (c .before .before .before .before .before .loop-test .taken) (c .before .before .before .before .before .before .loop .inv .2)
+low c = operands (c .before .before .before .before .pre .0) _ (c .loop-test .taken) (c .before .loop .inv .2)
 
 loop-holds : tie.Need-loop-holds Inv-loop μ-loop
 loop-holds c = (search needs, search needs, gates-start (c .before .before .pre .0) (c .before .before .pre .1))
@@ -34,74 +34,71 @@ mul-at c = search needs
 add-at : tie.Need-add-at Inv-loop μ-loop
 add-at c = search needs
 
-add-a : tie.Need-add-a Inv-loop μ-loop
-add-a c = search needs
+mul-kind : tie.Need-mul-kind Inv-loop μ-loop
+mul-kind c = search needs
 
-mul-a : tie.Need-mul-a Inv-loop μ-loop
-mul-a c = search needs
+shared-slice-read-kind : tie.Need-shared-slice-read-kind Inv-loop μ-loop
+shared-slice-read-kind c = search needs
 
-shared-slice-read-a : tie.Need-shared-slice-read-a Inv-loop μ-loop
-shared-slice-read-a c = search needs
+add-i : tie.Need-add-i Inv-loop μ-loop
+add-i c = search needs
 
-add-b : tie.Need-add-b Inv-loop μ-loop
-add-b c = search needs
+mul-i : tie.Need-mul-i Inv-loop μ-loop
+mul-i c = search needs
 
-mul-b : tie.Need-mul-b Inv-loop μ-loop
-mul-b c = search needs
-
-shared-slice-read-b : tie.Need-shared-slice-read-b Inv-loop μ-loop
-shared-slice-read-b c = search needs
-
-add-c : tie.Need-add-c Inv-loop μ-loop
-add-c c = search needs
-
-mul-c : tie.Need-mul-c Inv-loop μ-loop
-mul-c c = search needs
-
-shared-slice-read-c : tie.Need-shared-slice-read-c Inv-loop μ-loop
-shared-slice-read-c c = search needs
-
-mul-decoded : tie.Need-mul-decoded Inv-loop μ-loop
-mul-decoded c = search needs
-
-shared-slice-read-decoded : tie.Need-shared-slice-read-decoded Inv-loop μ-loop
-shared-slice-read-decoded c = search needs
-
-decoded-requires : tie.Need-decoded-requires Inv-loop μ-loop
-decoded-requires c κs = search needs
+shared-slice-read-i : tie.Need-shared-slice-read-i Inv-loop μ-loop
+shared-slice-read-i c = search needs
 
 cast-i : tie.Need-cast-i Inv-loop μ-loop
-cast-i c = omega (arith, low c)
+cast-i c = omega (arith, low (c .before .before))
+
+add-j : tie.Need-add-j Inv-loop μ-loop
+add-j c = search needs
+
+mul-j : tie.Need-mul-j Inv-loop μ-loop
+mul-j c = search needs
+
+shared-slice-read-j : tie.Need-shared-slice-read-j Inv-loop μ-loop
+shared-slice-read-j c = search needs
 
 cast-j : tie.Need-cast-j Inv-loop μ-loop
-cast-j c = omega (arith, low c)
+cast-j c = omega (arith, low (c .before .before .before))
+
+add-k : tie.Need-add-k Inv-loop μ-loop
+add-k c = search needs
+
+mul-k : tie.Need-mul-k Inv-loop μ-loop
+mul-k c = search needs
+
+shared-slice-read-k : tie.Need-shared-slice-read-k Inv-loop μ-loop
+shared-slice-read-k c = search needs
 
 cast-k : tie.Need-cast-k Inv-loop μ-loop
-cast-k c = omega (arith, low c)
+cast-k c = omega (arith, low (c .before .before .before .before))
 
 mul-gate-depth : tie.Need-mul-gate-depth Inv-loop μ-loop
-mul-gate-depth c = omega (arith, low c)
+mul-gate-depth c = omega (arith, low (c .before .before .before .before))
 
 slice-read-gate-depth : tie.Need-slice-read-gate-depth Inv-loop μ-loop
-slice-read-gate-depth c = omega (arith, low (c .before))
+slice-read-gate-depth c = omega (arith, low (c .before .before .before .before .before))
 
 mul-gate-depth-2 : tie.Need-mul-gate-depth-2 Inv-loop μ-loop
-mul-gate-depth-2 c = omega (arith, low (c .before))
+mul-gate-depth-2 c = omega (arith, low (c .before .before .before .before .before))
 
 slice-read-gate-depth-2 : tie.Need-slice-read-gate-depth-2 Inv-loop μ-loop
-slice-read-gate-depth-2 c = omega (arith, low (c .before .before))
+slice-read-gate-depth-2 c = omega (arith, low (c .before .before .before .before .before .before))
 
 mul-gate-depth-3 : tie.Need-mul-gate-depth-3 Inv-loop μ-loop
-mul-gate-depth-3 c = omega (arith, low (c .before .before))
+mul-gate-depth-3 c = omega (arith, low (c .before .before .before .before .before .before))
 
 slice-read-gate-depth-3 : tie.Need-slice-read-gate-depth-3 Inv-loop μ-loop
-slice-read-gate-depth-3 c = omega (arith, low (c .before .before .before))
+slice-read-gate-depth-3 c = omega (arith, low (c .before .before .before .before .before .before .before))
 
 gate-depth-requires : tie.Need-gate-depth-requires Inv-loop μ-loop
 gate-depth-requires c κs =
-    let t = c .before .before .before .before .before .before .before .before in
+    let t = c .before .before .before .before .before .before .before in
     let p = t .before .before .before .before .pre in
-    rw (c .before .before .before .decoded .ensures) (gate-low (p .0) (t .before .loop .g) (t .loop-test .taken) (t .before .loop .inv .2))
+    (kind (p .0) (t .before .loop .g) (t .loop-test .taken) (t .before .loop .inv .2), gate-low (p .0) (t .before .loop .g) (t .loop-test .taken) (t .before .loop .inv .2))
 
 add-wire : tie.Need-add-wire Inv-loop μ-loop
 add-wire c = search needs
@@ -120,10 +117,9 @@ loop-less c = search needs
 
 loop-again : tie.Need-loop-again Inv-loop μ-loop
 loop-again c =
-    let t = c .before .before .before .before .before .before .before .before .before in
+    let t = c .before .before .before .before .before .before .before .before in
     let p = t .before .before .before .before .pre in
-    let d = rw (c .before .before .before .before .decoded .ensures) at (c .gate-depth .ensures) in
-    (search needs, search needs, gate-more (p .0) (t .before .loop .g) (t .loop-test .taken) (t .before .loop .inv .2) d)
+    (search needs, search needs, gate-more (p .0) (t .before .loop .g) (t .loop-test .taken) (t .before .loop .inv .2) (c .gate-depth .ensures))
 
 same-length : tie.Need-same-length Inv-loop μ-loop
 same-length c = c .before .loop .inv .1
@@ -140,20 +136,19 @@ put-gates-spec =
     loop-holds
     mul-at
     add-at
-    add-a
-    mul-a
-    shared-slice-read-a
-    add-b
-    mul-b
-    shared-slice-read-b
-    add-c
-    mul-c
-    shared-slice-read-c
-    mul-decoded
-    shared-slice-read-decoded
-    decoded-requires
+    mul-kind
+    shared-slice-read-kind
+    add-i
+    mul-i
+    shared-slice-read-i
     cast-i
+    add-j
+    mul-j
+    shared-slice-read-j
     cast-j
+    add-k
+    mul-k
+    shared-slice-read-k
     cast-k
     mul-gate-depth
     slice-read-gate-depth
