@@ -6,6 +6,7 @@ ghost use lib.ListN.{length};
 ghost use Rattle.netlist.specs.Check.{netAnswer};
 ghost use Rattle.cells.specs.Cells.{oneHotNet, thresholdNet};
 ghost use Rattle.emit.specs.Emit.{oneHotAnswer, thresholdAnswer, decipherNet, decipherAnswer};
+ghost use Rattle.text.specs.Text.{Printed};
 ghost use Rattle.probe.specs.Replies.{replyOf, EvaluateReply, MeterReply, GlueReply, ChooseReply, KeystreamReply, CipherReply, EmitReply};
 
 #[repr(C)]
@@ -168,4 +169,11 @@ pub extern "C" fn probe_emit_decipher(
     ensures { λ r. ⌜ EmitReply (decipherAnswer instance m (now (indices .entry)) (now (whitening .entry)) (length (now (result .entry)))) (decipherNet instance m (now (indices .entry)) (now (whitening .entry))) (now (result .entry)) r (now (result .exit)) ⌝ }
 {
     told(emit::emit_decipher(instance, m, indices, whitening, result))
+}
+
+#[no_mangle]
+pub extern "C" fn probe_print(input: &[u8], result: &mut [u8]) -> usize
+    ensures { λ r. ⌜ Printed (now (input .entry)) (now (result .entry)) r (now (result .exit)) ⌝ }
+{
+    text::print_text(input, result)
 }
