@@ -17,6 +17,9 @@ use Rattle.cipher.specs.Cipher.{Streamed, Ciphered}
 use Rattle.cells.specs.Cells.{oneHotNet, thresholdNet}
 use Rattle.file.specs.declared.form.Form.{Form}
 use Rattle.file.specs.File.{checkAnswer, ReadAs, WrittenAs}
+use Rattle.text.specs.declared.Asked.{Asked}
+use Rattle.text.specs.Asked.{askedOf}
+use Rattle.text.specs.Text.{Printed}
 use Rattle.emit.specs.Emit.{oneHotAnswer, thresholdAnswer, decipherAnswer, decipherNet, Emitted}
 
 -- two lists that were left by equal answers
@@ -103,3 +106,10 @@ write-decides form net out x y =
 
 pub check-file-decides : (form : Form) (source : List ℕ) {r s : Answer} → r ≡ checkAnswer form source → s ≡ checkAnswer form source → r ≡ s
 check-file-decides form source p q = p ∙ sym q
+
+-- the printing program's text
+pub print-decides : (input out : List ℕ) {r s : ℕ} {v w : List ℕ} → Printed input out r v → Printed input out s w → (r ≡ s) × (v ≡ w)
+print-decides input out x y = (x .told ∙ sym (y .told), x .written ∙ sym (y .written))
+
+pub parse-decides : (input : List ℕ) {r s : Asked} → r ≡ askedOf input → s ≡ askedOf input → r ≡ s
+parse-decides input p q = p ∙ sym q

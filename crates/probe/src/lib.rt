@@ -8,6 +8,7 @@ ghost use Rattle.cells.specs.Cells.{oneHotNet, thresholdNet};
 ghost use Rattle.emit.specs.Emit.{oneHotAnswer, thresholdAnswer, decipherNet, decipherAnswer};
 ghost use Rattle.file.specs.File.{checkAnswer};
 ghost use Rattle.file.specs.declared.form.Form.the-variants.{Full};
+ghost use Rattle.text.specs.Text.{Printed};
 ghost use Rattle.probe.specs.Replies.{replyOf, EvaluateReply, MeterReply, GlueReply, ChooseReply, KeystreamReply, CipherReply, EmitReply, ReadReply, WriteReply};
 
 #[repr(C)]
@@ -191,4 +192,11 @@ pub extern "C" fn probe_check_file(source: &[u8]) -> Reply
     ensures { λ r. ⌜ r ≡ replyOf (checkAnswer Full (now (source .entry))) ⌝ }
 {
     told(file::check_file(source))
+}
+
+#[no_mangle]
+pub extern "C" fn probe_print(input: &[u8], result: &mut [u8]) -> usize
+    ensures { λ r. ⌜ Printed (now (input .entry)) (now (result .entry)) r (now (result .exit)) ⌝ }
+{
+    text::print_text(input, result)
 }

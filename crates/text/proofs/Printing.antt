@@ -25,7 +25,7 @@ use Rattle.emit.proofs.Puts.{words-length}
 use Rattle.text.specs.declared.Asked.{Asked}
 use Rattle.text.specs.declared.Asked.the-variants.{Line, Nothing}
 use Rattle.text.specs.Asked.{askedOf}
-use Rattle.text.specs.Text.{titleLine, netText, wordsText, refusal, thresholdText, textOf, printed}
+use Rattle.text.specs.Text.{titleLine, netText, wordsText, refusal, thresholdText, textOf, printed, Printed}
 use Rattle.text.specs.Puts.{Room, Wrote}
 use Rattle.text.proofs.Fits.{netlist-fits, threshold-few, printed-fits}
 use Rattle.text.proofs.Netlists.{words-text}
@@ -127,9 +127,20 @@ module _ (input list new : List ℕ) (size : ℕ) (w : Wrote (printed input) lis
 
   pub kept-text : (r : ℕ) (old last : List ℕ) → (r ≡ choose (leb size (length old)) size 0)
       × (last ≡ choose (leb size (length old)) (over (take size new) old) old)
-      → (r ≡ choose (leb (length (printed input)) (length old)) (length (printed input)) 0)
-      × (last ≡ choose (leb (length (printed input)) (length old)) (over (printed input) old) old)
-  kept-text r old last k = (
-    k .0 ∙ ap (λ (z : ℕ). choose (leb z (length old)) z 0) size-is,
-    k .1 ∙ (λ i. choose (leb (size-is i) (length old)) (over (text-is i) old) old),
-  )
+      → Printed input old r last
+  kept-text r old last k =
+      record {
+        size = k .0 ∙ ap (λ (z : ℕ). choose (leb z (length old)) z 0) size-is;
+        written = k .1 ∙ (λ i. choose (leb (size-is i) (length old)) (over (text-is i) old) old);
+      }
+
+-- the promise decides the outcome
+pub print-decides : (input old : List ℕ) (r r′ : ℕ) (new new′ : List ℕ) → Printed input old r new → Printed input old r′ new′ → (r ≡ r′) × (new ≡ new′)
+print-decides input old r r′ new new′ p q = (p .size ∙ sym (q .size), p .written ∙ sym (q .written))
+
+-- with 131,072 bytes lent the text is always there
+pub print-whole : (input old : List ℕ) (r : ℕ) (new : List ℕ) → 131072 ≤ length old → Printed input old r new
+    → (r ≡ length (printed input)) × (new ≡ over (printed input) old)
+print-whole input old r new h p =
+    let e = le-leb (length (printed input)) (length old) (omega (arith, printed-fits input)) in
+    (rw e at (p .size), rw e at (p .written))

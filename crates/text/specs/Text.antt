@@ -1,9 +1,12 @@
 -- What the printing program prints. Document 01, "The printing program": a title with d and n; counts; a gate's wire,
 -- kind and used operands; each output wire. Bytes are in comments as they read.
 use Prim.Native.Nat.{ℕ, suc}
+use mathlib.Core.Path.{_≡_}
 use mathlib.Core.List.{List, [], _∷_, _++_}
 use lib.ListN.{length, drop}
+use lib.Dec.{leb}
 use Rattle.answer.specs.Choose.{choose}
+use Rattle.answer.specs.Fronts.{over}
 use Rattle.netlist.specs.declared.gate.Gate.{Gate}
 use Rattle.netlist.specs.declared.gate.Gate.the-variants.{Zero, One, Not, Xor, And, Mux}
 use Rattle.netlist.specs.Net.{Net, depth, mults}
@@ -89,6 +92,12 @@ textOf (Line d n) = thresholdText d n
 -- what is printed on a whole input
 unfoldable pub printed : List ℕ → List ℕ
 printed input = textOf (askedOf input)
+
+-- a call that was to print for an input: the text at the front of the result and its length, where there is room;
+-- otherwise nothing, and 0
+pub record Printed (input old : List ℕ) (r : ℕ) (new : List ℕ) : Type 0 where
+  pub size : r ≡ choose (leb (length (printed input)) (length old)) (length (printed input)) 0
+  pub written : new ≡ choose (leb (length (printed input)) (length old)) (over (printed input) old) old
 
 -- For the code: the same text from a netlist's words. I, G and O are those of its header, D its depth, M its
 -- multiplications

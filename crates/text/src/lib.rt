@@ -13,7 +13,7 @@ ghost use lib.Dec.{leb};
 ghost use Rattle.answer.specs.Choose.{choose};
 ghost use Rattle.answer.specs.Fronts.{over};
 ghost use Rattle.text.specs.Asked.{askedOf};
-ghost use Rattle.text.specs.Text.{printed};
+ghost use Rattle.text.specs.Text.{printed, Printed};
 ghost use Rattle.text.specs.Puts.{Wrote};
 
 // A line "d n", or anything else.
@@ -58,8 +58,7 @@ fn keep(text: &[u8], size: usize, result: &mut [u8]) -> usize
 // What is printed on a whole input, at the front of the result, and its length. Where the result is too
 // short nothing is written, and the length is given as 0.
 pub fn print_text(input: &[u8], result: &mut [u8]) -> usize
-    ensures { λ r. ⌜ r ≡ choose (leb (length (printed (now (input .entry)))) (length (now (result .entry)))) (length (printed (now (input .entry)))) 0 ⌝ }
-    ensures { λ _. ⌜ now (result .exit) ≡ choose (leb (length (printed (now (input .entry)))) (length (now (result .entry)))) (over (printed (now (input .entry))) (now (result .entry))) (now (result .entry)) ⌝ }
+    ensures { λ r. ⌜ Printed (now (input .entry)) (now (result .entry)) r (now (result .exit)) ⌝ }
 {
     let mut text = [0u8; 131072];
     let size = write(input, &mut text);

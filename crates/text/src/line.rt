@@ -73,10 +73,10 @@ fn ended(input: &[u8], d: u32, second: Number) -> Asked
     if answer::byte_at(input, past) != b'\n' {
         return Asked::Nothing;
     }
-    if input.len() != past + 1 {
-        return Asked::Nothing;
+    if input.len() == past + 1 {
+        return Asked::Line { d: d, n: value };
     }
-    Asked::Line { d: d, n: value }
+    Asked::Nothing
 }
 
 // What a whole input asks.

@@ -28,10 +28,12 @@ add-if2 c =
     omega arith
 
 returns-3 : tie.Need-returns-3
-returns-3 c = ended-more _ _ _ _ _ _ (c .before .before .before .before .second .given .1) (c .before .before .byte-at .ensures) (c .before .if1 .left) (c .if2 .taken)
+returns-3 c =
+    ended-line _ _ _ _ _ _ (c .before .before .before .before .second .given .1) (c .before .before .byte-at .ensures) (c .before .if1 .left) (c .if2 .taken)
 
 returns-4 : tie.Need-returns-4
-returns-4 c = ended-line _ _ _ _ _ _ (c .before .before .before .before .second .given .1) (c .before .before .byte-at .ensures) (c .before .if1 .left) (c .if2 .left)
+returns-4 c =
+    ended-more _ _ _ _ _ _ (c .before .before .before .before .second .given .1) (c .before .before .byte-at .ensures) (c .before .if1 .left) (c .if2 .left)
 
 pub ended-spec : {M : Type 1} → statement M
 ended-spec =
