@@ -140,6 +140,13 @@ extern "C" {
     ) -> RawReply;
 
     fn probe_check_file(source: *const u8, source_length: usize) -> RawReply;
+
+    fn probe_print(
+        input: *const u8,
+        input_length: usize,
+        result: *mut u8,
+        result_length: usize,
+    ) -> usize;
 }
 
 impl From<RawReply> for Answer {
@@ -371,4 +378,17 @@ pub fn write_file(net: &[u32], result: &mut [u8]) -> Answer {
 pub fn check_file(source: &[u8]) -> Answer {
     // SAFETY: as in `check`.
     unsafe { probe_check_file(source.as_ptr(), source.len()) }.into()
+}
+
+/// The length of the text, or 0 if there is no room for it.
+pub fn print(input: &[u8], result: &mut [u8]) -> usize {
+    // SAFETY: as in `check`.
+    unsafe {
+        probe_print(
+            input.as_ptr(),
+            input.len(),
+            result.as_mut_ptr(),
+            result.len(),
+        )
+    }
 }

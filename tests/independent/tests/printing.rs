@@ -1,0 +1,309 @@
+//! Hands the library and the Rust program the same input and compares the
+//! printed text: every netlist that can be asked for, and input that is no such
+//! line.
+
+use independent::lent::{show, Lent};
+use independent::printing::{printed, REFUSED};
+use independent::probe;
+use independent::random::{fill, seeded};
+
+/// Has the library print into that room. The text is that of the Rust program
+/// where there is room for it, and nothing is written where there is none.
+fn print(input: &[u8], text: &[u8], room: usize) {
+    let case = || format!("printing for {}, {room} bytes of room", show(input));
+    let stale = fill(&mut seeded(400), room);
+    let (mut input, mut result) = (Lent::new(input), Lent::new(&stale));
+    let length = probe::print(input.library(), result.library());
+    let expected = if text.len() <= room { text.len() } else { 0 };
+    result.rust()[..expected].copy_from_slice(&text[..expected]);
+    assert_eq!(length, expected, "library, rust; {}", case());
+    input.settle(0, "input", &case);
+    result.settle(expected, "text", &case);
+}
+
+/// Rooms of every kind: none, too little, the exact one, and more.
+fn in_every_room(input: &[u8]) -> Vec<u8> {
+    let text = printed(input);
+    let exact = text.len();
+    for room in [0, 1, exact / 2, exact - 1, exact, exact + 1, exact + 60] {
+        print(input, &text, room);
+    }
+    text
+}
+
+/// Whether it is refused, with room to spare.
+fn refused(input: &[u8]) -> bool {
+    let text = printed(input);
+    print(input, &text, text.len() + 40);
+    text == REFUSED.as_bytes()
+}
+
+#[test]
+fn printed_example() {
+    let expected = "\
+T 2 3
+in 3 gates 5 out 1 depth 2 mult 3
+3 NOT 0
+4 MUX 1 0 3
+5 AND 0 1
+6 AND 4 2
+7 XOR 6 5
+out 7
+";
+    let mut result = [9; 100];
+    let length = probe::print(b"2 3\n", &mut result);
+    assert_eq!(result[..length], *expected.as_bytes());
+    assert_eq!(result[length..], [9; 100][length..]);
+    assert_eq!(probe::print(b"3 2\n2\n", &mut result), REFUSED.len());
+    assert_eq!(result[..REFUSED.len()], *REFUSED.as_bytes());
+    // The text before is still there after that.
+    assert_eq!(
+        result[REFUSED.len()..length],
+        expected.as_bytes()[REFUSED.len()..]
+    );
+}
+
+#[test]
+fn every_netlist() {
+    let mut accepted = 0;
+    for n in 0..=66 {
+        for d in 0..=n + 3 {
+            let text = in_every_room(format!("{d} {n}\n").as_bytes());
+            let good = n <= 64 && 1 <= d && d <= n + 1;
+            assert_eq!(text != REFUSED.as_bytes(), good);
+            accepted += usize::from(good);
+        }
+    }
+    assert_eq!(accepted, (1..=65).sum());
+}
+
+/// All numbers of up to three digits, against those near the limits.
+#[test]
+fn every_number() {
+    for one in 0..1_000 {
+        for other in [0, 1, 2, 63, 64, 65, 66, 100, 256, 640, 999] {
+            for (d, n) in [(one, other), (other, one)] {
+                let good = n <= 64 && 1 <= d && d <= n + 1;
+                let line = format!("{d} {n}\n");
+                assert_eq!(refused(line.as_bytes()), !good, "{line}");
+            }
+        }
+    }
+}
+
+#[test]
+fn every_room() {
+    for line in [&b"2 3\n"[..], b"1 0\n", b"0 0\n", b"x", b""] {
+        let text = printed(line);
+        for room in 0..=text.len() + 3 {
+            print(line, &text, room);
+        }
+    }
+    for line in [&b"32 64\n"[..], b"1 64\n", b"64 64\n"] {
+        let text = printed(line);
+        let exact = text.len();
+        for room in (0..exact).step_by(97).chain([exact - 1, exact]) {
+            print(line, &text, room);
+        }
+    }
+}
+
+#[test]
+fn lines_that_are_refused() {
+    for input in [
+        // No newline, or not one alone at the end.
+        "",
+        "2 3",
+        "\n",
+        "\n2 3\n",
+        "2 3\n\n",
+        "2 3\r\n",
+        "2 3\r",
+        "2 3\n ",
+        "2\n3\n",
+        "2 3\0",
+        "2 3\0\n",
+        "2 3\n\0",
+        // A second line.
+        "2 3\n2 3\n",
+        "2 3\n2 3",
+        "1 1\nrefused 13\n",
+        // Spaces.
+        "2  3\n",
+        " 2 3\n",
+        "2 3 \n",
+        "2 \n",
+        " 3\n",
+        " \n",
+        "  \n",
+        "23\n",
+        "2\t3\n",
+        "2,3\n",
+        "2\u{a0}3\n",
+        "2 3 4\n",
+        // Needless zeros.
+        "02 3\n",
+        "2 03\n",
+        "00 3\n",
+        "2 00\n",
+        "002 3\n",
+        "2 003\n",
+        "000 000\n",
+        "01 01\n",
+        // Four digits and more.
+        "1000 3\n",
+        "2 1000\n",
+        "0002 3\n",
+        "2 0003\n",
+        "4294967298 3\n",
+        "2 4294967299\n",
+        "18446744073709551618 3\n",
+        "2 18446744073709551619\n",
+        // Signs, and other bytes.
+        "+2 3\n",
+        "2 +3\n",
+        "-2 3\n",
+        "2 -3\n",
+        "2. 3\n",
+        "2 3.\n",
+        "0x2 3\n",
+        "a b\n",
+        "2 3x\n",
+        "x2 3\n",
+        "２ ３\n",
+        "/ 3\n",
+        ": 3\n",
+        "2 /\n",
+        "2 :\n",
+        // No such netlist.
+        "0 0\n",
+        "0 3\n",
+        "2 0\n",
+        "5 3\n",
+        "66 64\n",
+        "1 65\n",
+        "65 65\n",
+        "999 999\n",
+        "258 3\n",
+        "2 259\n",
+    ] {
+        assert!(refused(input.as_bytes()), "{input:?}");
+        in_every_room(input.as_bytes());
+    }
+}
+
+/// Good lines with each byte replaced by each other, with each byte put in
+/// anywhere, and with each taken out.
+#[test]
+fn every_changed_byte() {
+    let mut good = 0;
+    for line in [&b"2 3\n"[..], b"12 34\n", b"64 64\n", b"100 64\n", b"1 0\n"] {
+        for place in 0..line.len() {
+            for byte in 0..=255 {
+                let mut input = line.to_vec();
+                input[place] = byte;
+                good += usize::from(!refused(&input));
+                let mut input = line.to_vec();
+                input.insert(place, byte);
+                good += usize::from(!refused(&input));
+            }
+            let mut input = line.to_vec();
+            input.remove(place);
+            good += usize::from(!refused(&input));
+        }
+        for byte in 0..=255 {
+            let input = [line, &[byte]].concat();
+            assert!(refused(&input));
+        }
+    }
+    assert!(good > 100, "only {good} good lines");
+}
+
+/// All input of up to six of these bytes.
+#[test]
+fn every_short_input() {
+    const BYTES: [u8; 6] = *b"013 \n9";
+    let mut good = 0;
+    for length in 0..=6_u32 {
+        for number in 0..BYTES.len().pow(length) {
+            let input: Vec<u8> = (0..length)
+                .map(|place| BYTES[number / BYTES.len().pow(place) % BYTES.len()])
+                .collect();
+            let text = printed(&input);
+            let mut result = vec![7; text.len()];
+            assert_eq!(probe::print(&input, &mut result), text.len(), "{input:?}");
+            assert!(result == text, "{input:?}");
+            good += usize::from(text != REFUSED.as_bytes());
+        }
+    }
+    assert!(good > 50, "only {good} good lines");
+}
+
+/// Much input: digits, spaces, newlines, and a good line before or after it.
+#[test]
+fn long_input() {
+    const LENGTH: usize = 64 * 1024;
+    for byte in *b"029 \n\0\xFF" {
+        let long = vec![byte; LENGTH];
+        for input in [
+            long.clone(),
+            [&long[..], b"\n"].concat(),
+            [&long[..], b" 3\n"].concat(),
+            [b"2 ", &long[..], b"\n"].concat(),
+            [b"2 3", &long[..], b"\n"].concat(),
+            [b"2 3\n", &long[..]].concat(),
+            [&long[..], b"2 3\n"].concat(),
+        ] {
+            assert!(refused(&input));
+        }
+    }
+    let lines = b"2 3\n".repeat(LENGTH / 4);
+    assert!(refused(&lines));
+    assert!(refused(&lines[..lines.len() - 1]));
+}
+
+#[test]
+fn random_input() {
+    let mut random = seeded(401);
+    let mut good = 0;
+    for _ in 0..20_000 {
+        let mut input: Vec<u8> = match random.below(4) {
+            0 => {
+                let length = random.between(0, 12);
+                fill(&mut random, length)
+            }
+            _ => {
+                let (d, n) = (random.below(70), random.below(70));
+                format!("{d} {n}\n").into_bytes()
+            }
+        };
+        for _ in 0..random.pick(&[0, 0, 1, 2]) {
+            let place = random.below(input.len() + 1);
+            match random.below(3) {
+                0 => input.insert(place, random.pick(b"0123456789 \n+-\r\t")),
+                1 if place < input.len() => {
+                    input.remove(place);
+                }
+                _ if place < input.len() => input[place] = random.pick(b"0123456789 \n"),
+                _ => {}
+            }
+        }
+        good += usize::from(!refused(&input));
+    }
+    assert!(good > 1_000, "only {good} good lines");
+}
+
+/// The library's call on a small stack.
+#[test]
+fn small_stack() {
+    const STACK: usize = 512 * 1024;
+    let text = printed(b"32 64\n");
+    let mut result = vec![9; text.len()];
+    std::thread::scope(|scope| {
+        let call = || assert_eq!(probe::print(b"32 64\n", &mut result), text.len());
+        let thread = std::thread::Builder::new().stack_size(STACK);
+        let thread = thread.spawn_scoped(scope, call).expect("a thread");
+        thread.join().expect("the call ends well");
+    });
+    assert!(result == text);
+}
