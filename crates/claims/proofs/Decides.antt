@@ -109,7 +109,7 @@ check-file-decides form source p q = p ∙ sym q
 
 -- the printing program's text
 pub print-decides : (input out : List ℕ) {r s : ℕ} {v w : List ℕ} → Printed input out r v → Printed input out s w → (r ≡ s) × (v ≡ w)
-print-decides input out x y = (x .told ∙ sym (y .told), x .written ∙ sym (y .written))
+print-decides input out x y = (x .size ∙ sym (y .size), x .written ∙ sym (y .written))
 
 pub parse-decides : (input : List ℕ) {r s : Asked} → r ≡ askedOf input → s ≡ askedOf input → r ≡ s
 parse-decides input p q = p ∙ sym q
