@@ -56,8 +56,8 @@ fn keep(text: &[u8], size: usize, result: &mut [u8]) -> usize
     put::put_bytes(result, 0, &text[..size])
 }
 
-// What is printed on a whole input, which is never longer than 131,072 bytes (`printed-fits`), at the front of the result, and its length. Where the result is too
-// short nothing is written, and the length is given as 0.
+// What is printed on a whole input, at the front of the result, and its length, which is never above
+// 131,072 (`printed-fits`). Where the result is too short nothing is written, and the length is given as 0.
 pub fn print_text(input: &[u8], result: &mut [u8]) -> usize
     ensures { λ r. ⌜ Printed (now (input .entry)) (now (result .entry)) r (now (result .exit)) ⌝ }
 {
