@@ -1,13 +1,13 @@
 -- What a whole input asks is the line of two numbers of at most three digits, and nothing else.
-use Prim.Native.Nat.{ℕ, zero, suc, _+_, _*_, _-_, _/_, _%_, _≤_, _<_}
+use Prim.Native.Nat.{ℕ, _+_, _*_, _-_, _/_, _%_, _≤_, _<_}
 use mathlib.Core.Bool.{Bool, true, false}
 use mathlib.Core.Path.{_≡_, refl, sym, ap, _∙_}
 use mathlib.Core.List.{List, [], _∷_, _++_, append-assoc}
 use native.Mathlib.Decide.{decLe}
 use native.Mathlib.Numerals.{add-one}
 use native.Mathlib.Omega.{arith}
-use borrow.Author.Tests.{eqb-true, lt-ltb, le-ltb}
-use lib.Dec.{eqb, ltb}
+use borrow.Author.Tests.{eqb-true, lt-ltb, le-ltb, le-leb}
+use lib.Dec.{eqb}
 use lib.ListN.{length, getD, drop, length-append, drop-of-length-le}
 use lib.Seq.{drop-cons, getD-append-add, getD-append-seam}
 use Rattle.answer.specs.Choose.{choose}
@@ -81,7 +81,7 @@ no-digit b h = rw (lt-ltb b 48 h)
 
 digit-is : (b : ℕ) → b < 10 → isDigit (48 + b) ≡ true
 unfolding isDigit
-digit-is b h = rw (le-ltb (48 + b) 48 (omega arith), lt-ltb (48 + b) 58 (omega arith))
+digit-is b h = rw (le-ltb (48 + b) 48 (omega arith), le-leb (48 + b) 57 (omega arith))
 
 module _ (pre rest : List ℕ) (v c : ℕ) (k : isDigit c ≡ false) where
   at-first : (t : List ℕ) → decimal v ≡ t → getD (pre ++ (decimal v ++ c ∷ rest)) (length pre) 0 ≡ getD (t ++ c ∷ rest) 0 0

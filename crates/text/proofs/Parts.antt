@@ -1,11 +1,11 @@
 -- Text stored part after part.
-use Prim.Native.Nat.{ℕ, suc, _+_, _≤_, _<_}
+use Prim.Native.Nat.{ℕ, suc, _+_, _<_}
 use mathlib.Core.Path.{_≡_, refl, sym, ap, _∙_}
 use mathlib.Core.List.{List, [], _∷_, _++_}
 use native.Mathlib.Omega.{arith}
 use native.Mathlib.Numerals.{add-one}
 use native.Mathlib.Nat.{zero-add}
-use lib.ListN.{length, getD, set, drop, length-append, drop-of-length-le}
+use lib.ListN.{length, getD, set, drop, length-append}
 use lib.Seq.{sets, length-sets, drop-cons, sets-eq}
 use Rattle.answer.specs.Fronts.{over}
 use Rattle.text.specs.Puts.{Room, Wrote, Left}

@@ -2,7 +2,7 @@
 use Prim.Native.Nat.{ℕ, _+_, _*_, _≤_, _<_}
 use mathlib.Core.Bool.{Bool, true, false}
 use mathlib.Core.Path.{_≡_, refl, sym, ap, _∙_}
-use mathlib.Core.List.{List, [], _∷_, _++_}
+use mathlib.Core.List.{List, _++_}
 use native.Mathlib.Omega.{arith}
 use borrow.Author.Tests.{le-leb, lt-leb, le-ltb}
 use lib.ListN.{length, getD, take, drop, length-append}
@@ -10,12 +10,11 @@ use lib.Seq.{length-take-le}
 use lib.Dec.{leb}
 use Rattle.answer.specs.declared.Answer.{Answer}
 use Rattle.answer.specs.declared.Answer.the-variants.{Done, Refused}
-use Rattle.answer.specs.Answers.{_▹_, refuse}
 use Rattle.answer.specs.Choose.{choose}
 use Rattle.answer.specs.Fronts.{over}
 use Rattle.answer.proofs.Rows.{first-done, refuse-done, refuse-not, both}
 use Rattle.answer.proofs.Over.{made, over-at, take-over}
-use Rattle.netlist.specs.Net.{Net, depth, mults}
+use Rattle.netlist.specs.Net.{depth, mults}
 use Rattle.netlist.specs.Words.{inputsOf, gatesOf, words}
 use Rattle.instance.specs.Judging.{roomAnswer}
 use Rattle.cells.specs.Cells.{thresholdNet}

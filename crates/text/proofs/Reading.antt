@@ -7,10 +7,10 @@ use mathlib.Core.List.{List, [], _∷_, _++_}
 use native.Mathlib.Omega.{arith}
 use native.Mathlib.Nat.{eq-or-lt-of-le}
 use native.Mathlib.Numerals.{add-one}
-use borrow.Author.Tests.{lt-ltb, le-ltb, eq-eqb, ne-eqb, ltb-true, ltb-false, eqb-true, eqb-false}
+use borrow.Author.Tests.{lt-ltb, le-ltb, eq-eqb, ne-eqb, leb-true, ltb-false, eqb-true, eqb-false}
 use lib.ListN.{length, getD, drop}
 use lib.Seq.{drop-cons}
-use lib.Dec.{ltb, eqb}
+use lib.Dec.{ltb, leb, eqb}
 use Rattle.answer.specs.Choose.{choose}
 use Rattle.text.specs.declared.Asked.{Asked}
 use Rattle.text.specs.declared.Asked.the-variants.{Line, Nothing}
@@ -24,7 +24,7 @@ pub digit-below : (b : ℕ) → b < 48 → false ≡ isDigit b
 unfolding isDigit
 digit-below b h = rw (lt-ltb b 48 h)
 
-pub digit-above : (b : ℕ) → 48 ≤ b → ltb b 58 ≡ isDigit b
+pub digit-above : (b : ℕ) → 48 ≤ b → leb b 57 ≡ isDigit b
 unfolding isDigit
 digit-above b h = rw (le-ltb b 48 h)
 
@@ -99,9 +99,9 @@ pub digit-range : (b : ℕ) → isDigit b ≡ true → (48 ≤ b) × (b < 58)
 unfolding isDigit
 digit-range b h = go (ltb b 48) refl h
   where
-    go : (x : Bool) → ltb b 48 ≡ x → choose x false (ltb b 58) ≡ true → (48 ≤ b) × (b < 58)
+    go : (x : Bool) → ltb b 48 ≡ x → choose x false (leb b 57) ≡ true → (48 ≤ b) × (b < 58)
     go true e h = let z : _≡_ {A = ℕ} 0 1 = cc in absurd (omega arith)
-    go false e h = (ltb-false b 48 e, ltb-true b 58 h)
+    go false e h = let l = leb-true b 57 h in (ltb-false b 48 e, omega arith)
 
 -- where a number is read: its digits, and the place past them
 pub record Digits (s : List ℕ) (i v p : ℕ) : Type 0 where

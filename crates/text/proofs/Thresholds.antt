@@ -1,8 +1,8 @@
 -- Threshold netlists: depth and multiplications as the code computes them, and the words emitted.
 use Prim.Native.Nat.{ℕ, _+_, _-_, _*_, _≤_, _<_, max}
-use mathlib.Core.Bool.{false, true}
-use mathlib.Core.Path.{_≡_, refl, sym, ap, _∙_}
-use mathlib.Core.List.{List, [], _∷_}
+use mathlib.Core.Bool.{false}
+use mathlib.Core.Path.{_≡_, sym, ap}
+use mathlib.Core.List.{[]}
 use native.Mathlib.Nat.{mul-le-mul-left}
 use native.Mathlib.Omega.{arith}
 use borrow.Author.Tests.{lt-ltb, le-ltb}

@@ -4,7 +4,7 @@ use Prim.Native.Nat.{ℕ, _+_, _*_, _-_}
 use mathlib.Core.Bool.{Bool, false}
 use mathlib.Core.List.{List, [], _∷_, _++_}
 use lib.ListN.{length, getD}
-use lib.Dec.{ltb, eqb}
+use lib.Dec.{ltb, leb, eqb}
 use Rattle.answer.specs.Choose.{choose}
 use Rattle.text.specs.declared.Asked.{Asked}
 use Rattle.text.specs.declared.Asked.the-variants.{Line, Nothing}
@@ -18,7 +18,7 @@ lineOf d n = decimal d ++ 32 ∷ decimal n ++ 10 ∷ []
 
 -- '0' to '9'
 unfoldable pub isDigit : ℕ → Bool
-isDigit b = choose (ltb b 48) false (ltb b 58)
+isDigit b = choose (ltb b 48) false (leb b 57)
 
 -- The number of 1 to 3 digits that begins at byte i, and the place past it. After a first digit '0' no digit is read,
 -- and none after three.

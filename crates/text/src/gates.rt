@@ -5,7 +5,6 @@ use crate::put::put_named;
 use netlist::gate::Gate;
 ghost use mathlib.Core.Path.{_≡_};
 ghost use Prim.Native.Nat.{_+_, _≤_};
-ghost use lib.ListN.{length};
 ghost use Rattle.netlist.specs.Words.{gateAt, gatesAt};
 ghost use Rattle.text.specs.Text.{gateText, gateLine, gateLines};
 ghost use Rattle.text.specs.Puts.{Room, Wrote};

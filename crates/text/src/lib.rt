@@ -29,7 +29,8 @@ pub fn parse(input: &[u8]) -> Asked
     line::asked(input)
 }
 
-// The text for an input, from byte 0 on, and its length.
+// The text for an input, from byte 0 on, and its length. Netlists of up to 64 inputs have at most 4,289
+// gates, so 3 + 4 * 4289 + 1 words.
 fn write(input: &[u8], text: &mut [u8]) -> usize
     requires { ⌜ 131072 ≤ length (now text) ⌝ }
     ensures { λ r. ⌜ Wrote (printed (now (input .entry))) (now (text .entry)) 0 (now (text .exit)) r ⌝ }
@@ -55,8 +56,8 @@ fn keep(text: &[u8], size: usize, result: &mut [u8]) -> usize
     put::put_bytes(result, 0, &text[..size])
 }
 
-// What is printed on a whole input, at the front of the result, and its length. Where the result is too
-// short nothing is written, and the length is given as 0.
+// What is printed on a whole input, at the front of the result, and its length, which is never above
+// 131,072 (`printed-fits`). Where the result is too short nothing is written, and the length is given as 0.
 pub fn print_text(input: &[u8], result: &mut [u8]) -> usize
     ensures { λ r. ⌜ Printed (now (input .entry)) (now (result .entry)) r (now (result .exit)) ⌝ }
 {

@@ -16,9 +16,10 @@ fn is_digit(byte: u8) -> bool
     if byte < b'0' {
         return false;
     }
-    byte < 58
+    byte <= b'9'
 }
 
+// A digit's value.
 fn digit(byte: u8) -> u32
     ensures { λ r. ⌜ r ≡ byte - 48 ⌝ }
 {

@@ -3,7 +3,7 @@ use crate::gates::put_gates;
 use crate::put::put_bytes;
 use crate::put::put_named;
 ghost use Prim.Native.Nat.{_+_, _≤_};
-ghost use lib.ListN.{length, drop};
+ghost use lib.ListN.{drop};
 ghost use Rattle.netlist.specs.Words.{inputsOf, gatesOf};
 ghost use Rattle.text.specs.Text.{titleLine, sizes, costs, outLine, outLines, wordsText};
 ghost use Rattle.text.specs.Puts.{Room, Wrote};

@@ -1,7 +1,6 @@
 use Prim.Native.Nat.{_+_, _*_}
 use mathlib.Core.Path.{_≡_}
 use native.Mathlib.Omega.{arith}
-use borrow.Author.Needs.{needs}
 use Rattle.netlist.specs.Words.{gatesAt}
 use Rattle.text.specs.Text.{gateLines}
 use Rattle.text.specs.Puts.{Left}

@@ -1,8 +1,7 @@
 use native.Mathlib.Omega.{arith}
-use mathlib.Core.Path.{sym, ap, subst, _∙_}
+use mathlib.Core.Path.{sym, subst, _∙_}
 use Rattle.text.specs.Puts.{Room, Wrote}
 use mathlib.Core.List.{List}
-use lib.ListN.{length}
 use Rattle.text.proofs.Decimals.{decimal-low, decimal-high}
 use Rattle.text.proofs.Parts.{first-room, next-room, wrote-then, wrote-size}
 use denote.Ref.{now}

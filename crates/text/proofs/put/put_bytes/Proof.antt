@@ -1,7 +1,6 @@
 use Prim.Native.Nat.{_+_, _-_, _≤_}
-use mathlib.Core.Path.{_≡_, sym, _∙_}
+use mathlib.Core.Path.{_≡_}
 use native.Mathlib.Omega.{arith}
-use borrow.Author.Needs.{needs}
 use lib.ListN.{length, drop, drop-of-length-le}
 use Rattle.text.specs.Puts.{Left}
 use Rattle.text.proofs.Parts.{left-start, left-step, left-end, rest-of, wrote-byte}
