@@ -5,25 +5,22 @@ use mathlib.Core.Bool.{Bool, true, false}
 use mathlib.Core.Path.{_≡_, refl, sym, ap, _∙_}
 use mathlib.Core.List.{List, _++_}
 use native.Mathlib.Omega.{arith}
-use lib.ListN.{length, getD, take, replicate, length-append}
+use lib.ListN.{length, getD, replicate}
 use lib.Seq.{ext-getD}
 use lib.Dec.{eqb}
 use borrow.Author.Tests.{eqb-true, eqb-false}
-use Rattle.answer.specs.declared.Answer.{Answer}
-use Rattle.answer.specs.declared.Answer.the-variants.{Done}
 use Rattle.answer.specs.Bits.{added}
-use Rattle.answer.specs.Fronts.{over, left}
 use Rattle.answer.proofs.Search.{bits-within}
 use Rattle.answer.proofs.Added.{added-length, added-at}
-use Rattle.answer.proofs.Over.{take-over}
 use Rattle.netlist.specs.Net.{Net, eval, depth, mults, depAlg, outsOf}
-use Rattle.netlist.specs.Words.{inputsOf, gatesOf, outputsOf, words, netOf}
+use Rattle.netlist.specs.Words.{inputsOf, outputsOf, words}
 use Rattle.netlist.specs.Sound.{Sound}
-use Rattle.netlist.proofs.Words.{netOf-words}
+use Rattle.netlist.proofs.Words.{valid-sound}
 use Rattle.instance.specs.Table.{sizesOf, keyBits}
 use Rattle.filter.specs.Filter.{tab}
 use Rattle.filter.proofs.Tab.{tab-length, tab-at}
-use Rattle.kreyvium.specs.Kreyvium.{streamOf}
+use Rattle.cells.specs.Cells.{oneHotNet, thresholdNet}
+use Rattle.cells.proofs.Facts.{one-hot-valid, one-hot-inputs, one-hot-outputs, one-hot-gates-64, threshold-valid, threshold-inputs, threshold-outputs, threshold-gates-64}
 use Rattle.wiring.specs.Costs.{costOf}
 use Rattle.wiring.specs.Decipher.{rowsNet}
 use Rattle.wiring.specs.Rows.{Rows, Inputs, decipherBit}
@@ -33,13 +30,9 @@ use Rattle.rounds.proofs.Sound.{kreyvium-outs, kreyvium-mults, kreyvium-sound}
 use Rattle.rounds.proofs.Values.{kreyvium-right}
 use Rattle.rounds.proofs.Depths.{kreyvium-depths}
 use Rattle.cipher.specs.Rows.{streamBit}
-use Rattle.cipher.specs.Cipher.{keystreamOf, encipherOf, Ciphered}
-use Rattle.cipher.proofs.Accepted.{stream-of, rows-of, encipher-lent}
-use Rattle.cipher.proofs.Written.{keystream-length}
-use Rattle.evaluate.specs.Evaluate.{evaluateAnswer, Evaluated}
-use Rattle.evaluate.specs.Ready.{Ready}
-use Rattle.evaluate.proofs.Accepted.{ready-done}
-use Rattle.emit.specs.Emit.{decipherNet, decipherAnswer, Emitted}
+use Rattle.cipher.specs.Cipher.{encipherOf}
+use Rattle.cipher.proofs.Accepted.{stream-of, rows-of}
+use Rattle.emit.specs.Emit.{decipherNet}
 use Rattle.emit.specs.Lent.{Lent}
 use Rattle.emit.proofs.Accepted.{net-kreyvium, net-rows, iv-lent, rows-lent}
 
@@ -62,6 +55,25 @@ added-tab f rec m e =
     ∙ ap (λ (k : ℕ). (getD rec i 0 + k) % 2) (tab-at f m i q)
     ∙ u
     ∙ sym (tab-at (λ i. (f i + getD rec i 0) % 2) m i q))
+
+-- One-hot and threshold netlists, up to 64 inputs, are accepted by every netlist call.
+pub one-hot-sound : (n : ℕ) → n ≤ 64 → Sound (words (oneHotNet n))
+one-hot-sound n h =
+    valid-sound (oneHotNet n) (one-hot-valid n)
+    record {
+      inputs = omega (arith, one-hot-inputs n);
+      gates = omega (arith, one-hot-gates-64 n h);
+      outputs = omega (arith, one-hot-outputs n);
+    }
+
+pub threshold-sound : (d n : ℕ) → n ≤ 64 → 1 ≤ d → d ≤ n + 1 → Sound (words (thresholdNet d n))
+threshold-sound d n h low high =
+    valid-sound (thresholdNet d n) (threshold-valid d n low high)
+    record {
+      inputs = omega (arith, threshold-inputs d n);
+      gates = omega (arith, threshold-gates-64 d n low high h);
+      outputs = omega (arith, threshold-outputs d n);
+    }
 
 module _ (inst m : ℕ) (idx wh : List ℕ) (l : Lent inst m idx wh) where
   rows : (inst ≡ 6 → ⊥) → Rows inst m idx wh

@@ -133,10 +133,6 @@ module _ (input list new : List ℕ) (size : ℕ) (w : Wrote (printed input) lis
         written = k .1 ∙ (λ i. choose (leb (size-is i) (length old)) (over (text-is i) old) old);
       }
 
--- the promise decides the outcome
-pub print-decides : (input old : List ℕ) (r r′ : ℕ) (new new′ : List ℕ) → Printed input old r new → Printed input old r′ new′ → (r ≡ r′) × (new ≡ new′)
-print-decides input old r r′ new new′ p q = (p .size ∙ sym (q .size), p .written ∙ sym (q .written))
-
 -- with 131,072 bytes lent the text is always there
 pub print-whole : (input old : List ℕ) (r : ℕ) (new : List ℕ) → 131072 ≤ length old → Printed input old r new
     → (r ≡ length (printed input)) × (new ≡ over (printed input) old)
