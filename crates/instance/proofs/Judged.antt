@@ -8,15 +8,15 @@ use native.Mathlib.Nat.{le-of-lt, lt-of-le-of-lt, mul-le-mul-left, mul-lt-mul-of
 use lib.Pow.{pow-pos, pow-add}
 use lib.ListN.{length, getD}
 use lib.Dec.{ltb}
-use borrow.Author.Tests.{lt-ltb, le-ltb, ltb-false, leb-false, eqb-true, not-false}
+use borrow.Author.Tests.{lt-ltb, le-ltb, ltb-false, leb-false, lt-leb, eqb-true, ne-eqb, not-false}
 use Rattle.answer.specs.declared.Answer.the-variants.{Done, Refused}
 use Rattle.answer.specs.Answers.{refuse}
 use Rattle.answer.specs.Choose.{choose}
 use Rattle.answer.specs.First.{first, some}
 use Rattle.answer.proofs.Rows.{first-done, then-done, refuse-done}
-use Rattle.answer.proofs.Search.{none-below}
+use Rattle.answer.proofs.Search.{first-none, none-below}
 use Rattle.instance.specs.Table.{entry, sizesOf, rowBits}
-use Rattle.instance.specs.Judging.{outside, numbersAnswer, lengthAnswer, roomAnswer, firstAnswer, pastKey, sameFrom, repeatsInRow, rowsAnswer}
+use Rattle.instance.specs.Judging.{outside, numbersAnswer, lengthAnswer, roomAnswer, firstAnswer, pastKey, sameFrom, repeatsInRow, rowsAnswer, isOne}
 
 pub sizes-none : (k : ℕ) → (k ≤ 6 → k ≡ 0) → sizesOf k ≡ entry 0 0
 unfolding sizesOf
@@ -82,6 +82,16 @@ pub past-none : (N : ℕ) (s : List ℕ) (r : ℕ) → r ≡ first (pastKey N s)
 unfolding pastKey
 past-none N s r e h k l =
     leb-false N (getD s k 0) (first-done-at 5 0 (pastKey N s) s (first-go 5 0 (pastKey N s) s r e h) k l)
+
+pub none-past : (N : ℕ) (s : List ℕ) → ((k : ℕ) → k < length s → getD s k 0 < N) → length s ≡ first (pastKey N s) (length s)
+unfolding pastKey
+none-past N s h = sym (first-none (pastKey N s) (length s) (λ k l. lt-leb N (getD s k 0) (h k l)))
+
+pub none-one : (l : ℕ) (s : List ℕ) → ((k : ℕ) → k < length s → getD s k 0 ≡ 0) → firstAnswer 7 l (isOne s) s ≡ Done
+unfolding isOne
+none-one l s h =
+    let e : length s ≡ first (isOne s) (length s) = sym (first-none (isOne s) (length s) (λ k m. ne-eqb (getD s k 0) 1 (λ q. omega (arith, h k m)))) in
+    first-go 7 l (isOne s) s (length s) e (omega arith)
 
 -- a search within a row of the place r that k has in it tells whether what stands at k repeats
 pub row-none : (s : List ℕ) (n k r : ℕ) {b : Bool} → r ≡ k % n → some (sameFrom (k - r) s k) r ≡ b → repeatsInRow n s k ≡ b
