@@ -11,7 +11,7 @@ use Rattle.meter.specs.declared.Metered.{Metered}
 use Rattle.meter.specs.Meter.{ifDone, MeteredAs}
 use Rattle.glue.specs.Glue.{gluedWords}
 use Rattle.glue.specs.Parts.{Fit}
-use Rattle.claims.proofs.Gluing.{glued-depth, glued-mults}
+use Rattle.path.proofs.Gluing.{glued-depth, glued-mults}
 
 -- what a call of the meter returned of a netlist that it accepted
 pub record Metered-done (net : List ℕ) (r : Metered) : Type 0 where

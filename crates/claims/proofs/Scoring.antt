@@ -26,8 +26,8 @@ use Rattle.glue.specs.Parts.{Fit}
 use Rattle.emit.specs.Emit.{decipherNet, decipherAnswer, Emitted}
 use Rattle.emit.specs.Lent.{Lent}
 use Rattle.emit.proofs.Accepted.{decipher-lent}
-use Rattle.claims.proofs.Gluing.{glue-accepts, glued-evaluates, glued-ready}
-use Rattle.claims.proofs.Emission.{emitted-sound, emitted-inputs, emitted-outputs, emitted-evaluates}
+use Rattle.path.proofs.Gluing.{glue-accepts, glued-evaluates, glued-ready}
+use Rattle.path.proofs.Emission.{emitted-sound, emitted-inputs, emitted-outputs, emitted-evaluates}
 
 -- what stands at the front of a list that Done left
 front : (new old : List ℕ) {out : List ℕ} {r : Answer} → r ≡ Done → out ≡ left r new old → take (length new) out ≡ new

@@ -35,11 +35,11 @@ glue-accepts a b out g f =
     (e, g .written ∙ sym (made _ _ e))
 
 module _ (a b : List ℕ) (n : ℕ) (f : Fit a b n) where
-  glued-gates : gatesOf (gluedWords a b) ≡ gatesOf a + gatesOf b
+  pub glued-gates : gatesOf (gluedWords a b) ≡ gatesOf a + gatesOf b
   glued-gates =
       omega (arith, glue-gates (netOf a) (netOf b), gates-length a 3 (gatesOf a), gates-length b 3 (gatesOf b))
 
-  glued-outputs : outputsOf (gluedWords a b) ≡ outputsOf b
+  pub glued-outputs : outputsOf (gluedWords a b) ≡ outputsOf b
   glued-outputs = glue-outputs (netOf a) (netOf b) ∙ outs-length b (f .second)
 
   fitting : length (netOf a .outs) ≡ netOf b .inputs

@@ -1,0 +1,2 @@
+pub mod Path
+pub mod Steps
