@@ -1,7 +1,8 @@
 -- Every public call's promise decides the outcome: two outcomes that both meet it are equal.
-use Prim.Native.Nat.{ℕ}
+use Prim.Native.Nat.{ℕ, _<_, _≤_, _^_}
 use mathlib.Core.Path.{_≡_, sym, ap, _∙_}
 use mathlib.Core.List.{List}
+use native.Mathlib.Omega.{arith}
 use lib.ListN.{length}
 use Rattle.answer.specs.declared.Answer.{Answer}
 use Rattle.answer.specs.Fronts.{left}
@@ -14,6 +15,13 @@ use Rattle.meter.specs.Meter.{ifDone, MeteredAs}
 use Rattle.glue.specs.Glue.{GluedAs}
 use Rattle.choice.specs.Choice.{Chosen}
 use Rattle.cipher.specs.Cipher.{Streamed, Ciphered}
+use Rattle.kreyvium.specs.declared.Block.{Block}
+use Rattle.kreyvium.specs.Kreyvium.{Registers, rounds, stream, streamOf}
+use Rattle.kreyvium.specs.Words.{tops, stateOf}
+use Rattle.kreyvium.proofs.Bits.{tops-decide}
+use Rattle.daemon.specs.Packed.{packedOf}
+use Rattle.daemon.specs.Daemon.{Enciphered}
+use Rattle.path.specs.Path.{Scored}
 use Rattle.cells.specs.Cells.{oneHotNet, thresholdNet}
 use Rattle.file.specs.declared.form.Form.{Form}
 use Rattle.file.specs.File.{checkAnswer, ReadAs, WrittenAs}
@@ -26,8 +34,13 @@ use Rattle.emit.specs.Emit.{oneHotAnswer, thresholdAnswer, decipherAnswer, deci
 same-left : {r s : Answer} (front old : List ℕ) {x y : List ℕ} → r ≡ s → x ≡ left r front old → y ≡ left s front old → x ≡ y
 same-left front old e p q = p ∙ ap (λ (t : Answer). left t front old) e ∙ sym q
 
+-- A promise that is one equation for what is returned. This is every public function of answer, netlist, instance and filter,
+-- and those of the others that are named below.
+pub equation-decides : {X : Type 0} (due : X) {r s : X} → r ≡ due → s ≡ due → r ≡ s
+equation-decides due p q = p ∙ sym q
+
 pub check-decides : (l : ℕ) (net : List ℕ) {r s : Answer} → r ≡ netAnswer l net → s ≡ netAnswer l net → r ≡ s
-check-decides l net p q = p ∙ sym q
+check-decides l net p q = equation-decides (netAnswer l net) p q
 
 pub evaluate-decides : (net inputs vals outs : List ℕ) {r s : Answer} {v w o p : List ℕ}
     → Evaluated net inputs vals outs r v o → Evaluated net inputs vals outs s w p → (r ≡ s) × (v ≡ w) × (o ≡ p)
@@ -105,11 +118,48 @@ write-decides form net out x y =
     (e, same-left _ _ e (x .written) (y .written))
 
 pub check-file-decides : (form : Form) (source : List ℕ) {r s : Answer} → r ≡ checkAnswer form source → s ≡ checkAnswer form source → r ≡ s
-check-file-decides form source p q = p ∙ sym q
+check-file-decides form source p q = equation-decides (checkAnswer form source) p q
 
 -- the printing program's text
 pub print-decides : (input out : List ℕ) {r s : ℕ} {v w : List ℕ} → Printed input out r v → Printed input out s w → (r ≡ s) × (v ≡ w)
 print-decides input out x y = (x .size ∙ sym (y .size), x .written ∙ sym (y .written))
 
 pub parse-decides : (input : List ℕ) {r s : Asked} → r ≡ askedOf input → s ≡ askedOf input → r ≡ s
-parse-decides input p q = p ∙ sym q
+parse-decides input p q = equation-decides (askedOf input) p q
+
+-- Kreyvium's words of keystream: 64 bits, the first the highest. A promise that returns a state fixes the registers that it
+-- stands for, and by them all that can be learnt of it: its output bit and the block of the 64 bits after it.
+pub stream64-decides : (key iv : List ℕ) {r s : ℕ} → r < 2 ^ 64 → s < 2 ^ 64 → ((n : ℕ) → n ≤ 64 → tops n r ≡ streamOf key iv n)
+    → ((n : ℕ) → n ≤ 64 → tops n s ≡ streamOf key iv n) → r ≡ s
+stream64-decides key iv h k p q = tops-decide _ _ h k (p 64 (omega arith) ∙ sym (q 64 (omega arith)))
+
+pub rounds64-decides : (a : Registers ℕ) (r s : Block) → r .z < 2 ^ 64 → s .z < 2 ^ 64
+    → (stateOf (r .next) ≡ rounds 64 a) × ((n : ℕ) → n ≤ 64 → tops n (r .z) ≡ stream n a)
+    → (stateOf (s .next) ≡ rounds 64 a) × ((n : ℕ) → n ≤ 64 → tops n (s .z) ≡ stream n a)
+    → (stateOf (r .next) ≡ stateOf (s .next)) × (r .z ≡ s .z)
+rounds64-decides a r s h k p q =
+    (p .0 ∙ sym (q .0), tops-decide (r .z) (s .z) h k (p .1 64 (omega arith) ∙ sym (q .1 64 (omega arith))))
+
+-- the scoring daemon's calls
+pub kreyvium-encipher-decides : (m : ℕ) (key rec iv out : List ℕ) {r s : ℕ} {v w : List ℕ}
+    → Enciphered m key rec iv out r v → Enciphered m key rec iv out s w → (r ≡ s) × (v ≡ w)
+kreyvium-encipher-decides m key rec iv out x y = (x .answered ∙ sym (y .answered), x .written ∙ sym (y .written))
+
+pub daemon-check-decides : (source : List ℕ) {r s : ℕ} → r ≡ packedOf (checkAnswer Form.Full source) → s ≡ packedOf (checkAnswer Form.Full source) → r ≡ s
+daemon-check-decides source p q = equation-decides (packedOf (checkAnswer Form.Full source)) p q
+
+-- the whole path: the answer, the scores and what the rooms hold
+pub score-decides : (inst m : ℕ) (key rec idx wh score enc net glued inp vals out : List ℕ) {r s : Answer} {e₁ e₂ n₁ n₂ g₁ g₂ i₁ i₂ v₁ v₂ o₁ o₂ : List ℕ}
+    → Scored inst m key rec idx wh score enc net glued inp vals out r e₁ n₁ g₁ i₁ v₁ o₁
+    → Scored inst m key rec idx wh score enc net glued inp vals out s e₂ n₂ g₂ i₂ v₂ o₂
+    → (r ≡ s) × (e₁ ≡ e₂) × (n₁ ≡ n₂) × (g₁ ≡ g₂) × (i₁ ≡ i₂) × (v₁ ≡ v₂) × (o₁ ≡ o₂)
+score-decides inst m key rec idx wh score enc net glued inp vals out x y =
+    let e = x .answered ∙ sym (y .answered) in (
+      e,
+      x .enciphers ∙ sym (y .enciphers),
+      x .emits ∙ sym (y .emits),
+      x .glues ∙ sym (y .glues),
+      x .lends ∙ sym (y .lends),
+      same-left _ _ e (x .evaluates) (y .evaluates),
+      same-left _ _ e (x .scores) (y .scores),
+    )

@@ -26,8 +26,9 @@ use Rattle.glue.specs.Parts.{Fit}
 use Rattle.emit.specs.Emit.{decipherNet, decipherAnswer, Emitted}
 use Rattle.emit.specs.Lent.{Lent}
 use Rattle.emit.proofs.Accepted.{decipher-lent}
-use Rattle.path.proofs.Gluing.{glue-accepts, glued-evaluates, glued-ready}
-use Rattle.path.proofs.Emission.{emitted-sound, emitted-inputs, emitted-outputs, emitted-evaluates}
+use Rattle.path.proofs.Gluing.{glue-accepts, glued-ready}
+use Rattle.path.proofs.Emission.{emitted-sound, emitted-outputs, emitted-evaluates}
+use Rattle.path.proofs.Scores.{bits-both, both-count, encipher-length, encipher-inputs, scores-same}
 
 -- what stands at the front of a list that Done left
 front : (new old : List ℕ) {out : List ℕ} {r : Answer} → r ≡ Done → out ≡ left r new old → take (length new) out ≡ new
@@ -36,13 +37,6 @@ front new old {out} {r} e p = ap (take (length new)) (p ∙ ap (λ (a : Answer).
 
 outputs-count : (net : List ℕ) (x : List ℕ) → Sound net → length (eval (netOf net) x) ≡ outputsOf net
 outputs-count net x s = length-map (netOf net .outs) (at valAlg (run valAlg x (netOf net .gates))) ∙ outs-length net s
-
--- bits of two lists end to end
-bits-both : (a b : List ℕ) → ((k : ℕ) → k < length a → getD a k 0 ≤ 1) → ((k : ℕ) → k < length b → getD b k 0 ≤ 1)
-    → (k : ℕ) → k < length (a ++ b) → getD (a ++ b) k 0 ≤ 1
-bits-both [] b f g k h = g k h
-bits-both (x ∷ a) b f g zero h = f 0 (omega arith)
-bits-both (x ∷ a) b f g (suc k) h = bits-both a b (λ i l. f (suc i) (omega arith)) g k (omega arith)
 
 -- a cipher call that answered Done was lent a key and a record
 inputs-of : (inst m : ℕ) (key rec idx wh : List ℕ) {out out′ : List ℕ} → Ciphered inst m key rec idx wh out Done out′ → Inputs inst m key rec
@@ -62,9 +56,6 @@ module _ (inst m : ℕ) (idx wh out : List ℕ) {out′ : List ℕ}
   pub words-left : take (length netWords) out′ ≡ netWords
   words-left = front netWords out refl (emitted .written)
 
-  both-count : (key rec : List ℕ) → Inputs inst m key rec → length (key ++ rec) ≡ inputsOf netWords
-  both-count key rec g = length-append key rec ∙ omega (arith, g .keyLength, g .recLength, emitted-inputs inst m idx wh lent)
-
   -- Evaluated on the key's bits and a record, with room, these words give what decipher leaves of that record under that
   -- key.
   pub emitted-deciphers : (key rec back vals outs : List ℕ) {t : Answer} {back′ vals′ outs′ : List ℕ}
@@ -82,7 +73,7 @@ module _ (inst m : ℕ) (idx wh out : List ℕ) {out′ : List ℕ}
       ∙ ready-done netWords (key ++ rec) (length vals) (length outs)
       record {
         sound = emitted-sound inst m idx wh lent;
-        count = both-count key rec g;
+        count = both-count inst m idx wh lent key rec g;
         bits = bits-both key rec (g .keyBit) (g .recBit);
         values = hv;
         outputs = omega (arith, emitted-outputs inst m idx wh lent);
@@ -110,18 +101,7 @@ module _ (inst m : ℕ) (idx wh out : List ℕ) {out′ : List ℕ}
   -- On the key and the enciphered record it answers what the scoring netlist answers on the plain record.
   pub score-same : (key rec score : List ℕ) (room : ℕ) → Inputs inst m key rec → Fit netWords score room
       → eval (netOf (gluedWords netWords score)) (key ++ encipherOf inst m key rec idx wh) ≡ eval (netOf score) rec
-  unfolding encipherOf
-  score-same key rec score room g f =
-      let ks = keystreamOf inst m key idx wh in
-      let k : length ks ≡ m = keystream-length inst m key idx wh in
-      let e = encipherOf inst m key rec idx wh in
-      let n : length e ≡ m = added-length rec ks (omega (arith, g .recLength)) ∙ g .recLength in
-      let h : Inputs inst m key e = record { keyLength = g .keyLength; recLength = n; keyBit = g .keyBit; recBit = λ j q. added-bits rec ks j } in
-      glued-evaluates netWords score room f (key ++ e) (both-count key e h)
-      ∙ ap (eval (netOf score))
-      (ap (λ (net : Net). eval net (key ++ e)) (netOf-words (decipherNet inst m idx wh))
-      ∙ emitted-evaluates inst m idx wh lent key e h
-      ∙ added-twice rec ks (omega (arith, g .recLength)) (g .recBit))
+  score-same key rec score room g f = scores-same inst m idx wh lent key rec g score room f
 
   -- The same of the calls: encipher left the enciphered record, glue the glued words; evaluated on the key and that record,
   -- with room, they give what evaluating the scoring netlist on the plain record gives.
@@ -137,11 +117,9 @@ module _ (inst m : ℕ) (idx wh out : List ℕ) {out′ : List ℕ}
       let W = netWords in
       let G = gluedWords W score in
       let g = inputs-of inst m key rec idx wh c in
-      let ks = keystreamOf inst m key idx wh in
-      let k : length ks ≡ m = keystream-length inst m key idx wh in
       let e = encipherOf inst m key rec idx wh in
-      let n : length e ≡ m = added-length rec ks (omega (arith, g .recLength)) ∙ g .recLength in
-      let h : Inputs inst m key e = record { keyLength = g .keyLength; recLength = n; keyBit = g .keyBit; recBit = λ j q. added-bits rec ks j } in
+      let n : length e ≡ m = encipher-length inst m idx wh lent key rec g in
+      let h = encipher-inputs inst m idx wh lent key rec g in
       let te : take m enc′ ≡ e = rw n at (front e enc refl (c .written)) in
       let a : (r ≡ Done) × (glued′ ≡ over G glued) =
       glue-accepts W score glued (rw words-left at x) f in
@@ -149,7 +127,7 @@ module _ (inst m : ℕ) (idx wh out : List ℕ) {out′ : List ℕ}
       let p : s ≡ Done = v .answered
       ∙ ap (λ (net : List ℕ). evaluateAnswer net (key ++ take m enc′) (length vals) (length outs)) tg
       ∙ ap (λ (z : List ℕ). evaluateAnswer G (key ++ z) (length vals) (length outs)) te
-      ∙ glued-ready W score (length glued) f (key ++ e) (length vals) (length outs) (both-count key e h) (bits-both key e (h .keyBit) (h .recBit)) hv ho in
+      ∙ glued-ready W score (length glued) f (key ++ e) (length vals) (length outs) (both-count inst m idx wh lent key e h) (bits-both key e (h .keyBit) (h .recBit)) hv ho in
       let q : eval (netOf (take (length G) glued′)) (key ++ take m enc′) ≡ eval (netOf score) rec =
       ap (λ (net : List ℕ). eval (netOf net) (key ++ take m enc′)) tg
       ∙ ap (λ (z : List ℕ). eval (netOf G) (key ++ z)) te

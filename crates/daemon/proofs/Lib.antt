@@ -1,3 +1,2 @@
 pub mod Numbers
 pub mod Counted
-pub mod Decides
