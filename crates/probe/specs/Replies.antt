@@ -12,6 +12,7 @@ use Rattle.choice.specs.Choice.{Chosen}
 use Rattle.cipher.specs.Cipher.{Streamed, Ciphered}
 use Rattle.netlist.specs.Net.{Net}
 use Rattle.emit.specs.Emit.{Emitted}
+use Rattle.path.specs.Path.{Scored}
 use Rattle.file.specs.declared.form.Form.the-variants.{Full}
 use Rattle.file.specs.File.{ReadAs, WrittenAs}
 use Rattle.probe.specs.declared.Reply.{Reply}
@@ -63,6 +64,11 @@ pub record CipherReply (inst m : ℕ) (key rec idx wh out : List ℕ) (r : Reply
 pub record EmitReply (due : Answer) (net : Net) (out : List ℕ) (r : Reply) (out′ : List ℕ) : Type 0 where
   pub answer : Answer
   pub outcome : Emitted due net out answer out′
+  pub told : r ≡ replyOf answer
+
+pub record ScoreReply (inst m : ℕ) (key rec idx wh score enc net glued inp vals out : List ℕ) (r : Reply) (enc′ net′ glued′ inp′ vals′ out′ : List ℕ) : Type 0 where
+  pub answer : Answer
+  pub outcome : Scored inst m key rec idx wh score enc net glued inp vals out answer enc′ net′ glued′ inp′ vals′ out′
   pub told : r ≡ replyOf answer
 
 pub record ReadReply (source out : List ℕ) (r : Reply) (out′ : List ℕ) : Type 0 where

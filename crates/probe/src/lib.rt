@@ -9,7 +9,7 @@ ghost use Rattle.emit.specs.Emit.{oneHotAnswer, thresholdAnswer, decipherNet, d
 ghost use Rattle.file.specs.File.{checkAnswer};
 ghost use Rattle.file.specs.declared.form.Form.the-variants.{Full};
 ghost use Rattle.text.specs.Text.{Printed};
-ghost use Rattle.probe.specs.Replies.{replyOf, EvaluateReply, MeterReply, GlueReply, ChooseReply, KeystreamReply, CipherReply, EmitReply, ReadReply, WriteReply};
+ghost use Rattle.probe.specs.Replies.{replyOf, EvaluateReply, MeterReply, GlueReply, ChooseReply, KeystreamReply, CipherReply, EmitReply, ScoreReply, ReadReply, WriteReply};
 
 #[repr(C)]
 pub struct Reply {
@@ -171,6 +171,41 @@ pub extern "C" fn probe_emit_decipher(
     ensures { λ r. ⌜ EmitReply (decipherAnswer instance m (now (indices .entry)) (now (whitening .entry)) (length (now (result .entry)))) (decipherNet instance m (now (indices .entry)) (now (whitening .entry))) (now (result .entry)) r (now (result .exit)) ⌝ }
 {
     told(emit::emit_decipher(instance, m, indices, whitening, result))
+}
+
+#[no_mangle]
+pub extern "C" fn probe_score(
+    instance: u32,
+    m: u32,
+    key: &[u8],
+    record: &[u8],
+    indices: &[u32],
+    whitening: &[u8],
+    enciphered: &mut [u8],
+    deciphering: &mut [u32],
+    scoring: &[u32],
+    glued: &mut [u32],
+    inputs: &mut [u8],
+    wires: &mut [u8],
+    scores: &mut [u8],
+) -> Reply
+    ensures { λ r. ⌜ ScoreReply instance m (now (key .entry)) (now («record» .entry)) (now (indices .entry)) (now (whitening .entry)) (now (scoring .entry)) (now (enciphered .entry)) (now (deciphering .entry)) (now (glued .entry)) (now (inputs .entry)) (now (wires .entry)) (now (scores .entry)) r (now (enciphered .exit)) (now (deciphering .exit)) (now (glued .exit)) (now (inputs .exit)) (now (wires .exit)) (now (scores .exit)) ⌝ }
+{
+    told(path::score(
+        instance,
+        m,
+        key,
+        record,
+        indices,
+        whitening,
+        enciphered,
+        deciphering,
+        scoring,
+        glued,
+        inputs,
+        wires,
+        scores,
+    ))
 }
 
 #[no_mangle]
