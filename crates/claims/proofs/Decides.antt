@@ -10,7 +10,9 @@ use Rattle.netlist.specs.Net.{Net, depth, mults}
 use Rattle.netlist.specs.Words.{netOf}
 use Rattle.netlist.specs.Check.{netAnswer}
 use Rattle.evaluate.specs.Evaluate.{Evaluated}
+use Rattle.meter.specs.declared.Level.{Level}
 use Rattle.meter.specs.declared.Metered.{Metered}
+use Rattle.meter.specs.Levels.{levels, leftLevels}
 use Rattle.meter.specs.Meter.{ifDone, MeteredAs}
 use Rattle.glue.specs.Glue.{GluedAs}
 use Rattle.choice.specs.Choice.{Chosen}
@@ -53,16 +55,15 @@ glue-decides a b out x y =
     let e = x .answered ∙ sym (y .answered) in
     (e, same-left _ _ e (x .written) (y .written))
 
-pub meter-decides : (net ds ands muxes : List ℕ) {r s : Metered} {d e a b m n : List ℕ}
-    → MeteredAs net ds ands muxes r d a m → MeteredAs net ds ands muxes s e b n → (r ≡ s) × (d ≡ e) × (a ≡ b) × (m ≡ n)
-meter-decides net ds ands muxes {r} {s} x y =
+pub meter-decides : (net ds : List ℕ) (ls : List Level) {r s : Metered} {d e : List ℕ} {l m : List Level}
+    → MeteredAs net ds ls r d l → MeteredAs net ds ls s e m → (r ≡ s) × (d ≡ e) × (l ≡ m)
+meter-decides net ds ls {r} {s} x y =
     let p = x .answered ∙ sym (y .answered) in
     let q = x .deep ∙ ap (λ (t : Answer). ifDone t (depth (netOf net))) p ∙ sym (y .deep) in
     let t = x .multiplied ∙ ap (λ (t : Answer). ifDone t (mults (netOf net))) p ∙ sym (y .multiplied) in (
       metered-eq r s p q t,
       x .filled ∙ sym (y .filled),
-      same-left _ _ p (x .andsTold) (y .andsTold),
-      same-left _ _ p (x .muxesTold) (y .muxesTold),
+      x .counted ∙ ap (λ (t : Answer). leftLevels t (levels net) ls) p ∙ sym (y .counted),
     )
   where
     metered-eq : (r s : Metered) → r .answer ≡ s .answer → r .depth ≡ s .depth → r .multiplications ≡ s .multiplications → r ≡ s

@@ -7,6 +7,7 @@ use Rattle.answer.specs.declared.Answer.{Answer}
 use Rattle.answer.specs.declared.Answer.the-variants.{Done}
 use Rattle.netlist.specs.Net.{depth, mults}
 use Rattle.netlist.specs.Words.{netOf}
+use Rattle.meter.specs.declared.Level.{Level}
 use Rattle.meter.specs.declared.Metered.{Metered}
 use Rattle.meter.specs.Meter.{ifDone, MeteredAs}
 use Rattle.glue.specs.Glue.{gluedWords}
@@ -16,12 +17,10 @@ use Rattle.path.proofs.Gluing.{glued-depth, glued-mults}
 -- what a call of the meter returned of a netlist that it accepted
 pub record Metered-done (net : List ℕ) (r : Metered) : Type 0 where
   pub ds : List ℕ
-  pub ands : List ℕ
-  pub muxes : List ℕ
+  pub ls : List Level
   pub ds′ : List ℕ
-  pub ands′ : List ℕ
-  pub muxes′ : List ℕ
-  pub outcome : MeteredAs net ds ands muxes r ds′ ands′ muxes′
+  pub ls′ : List Level
+  pub outcome : MeteredAs net ds ls r ds′ ls′
   pub done : r .answer ≡ Done
 
 given : {a : Answer} (n : ℕ) → a ≡ Done → ifDone a n ≡ n

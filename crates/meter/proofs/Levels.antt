@@ -1,26 +1,28 @@
 -- Laws of the level records: one more gate, what they sum to, and the multiplications.
 use Prim.Native.Nat.{ℕ, zero, suc, _+_, _<_, _≤_}
-use mathlib.Core.Path.{_≡_, refl, sym, ap, _∙_}
+use mathlib.Core.Path.{_≡_, refl, sym, ap, subst, _∙_}
 use mathlib.Core.Bool.{Bool, true, false, _&&_}
-use mathlib.Core.List.{List, [], _∷_, _++_}
+use mathlib.Core.List.{List, [], _∷_, _++_, map}
 use native.Mathlib.Omega.{arith}
 use native.Mathlib.Nat.{add-zero}
 use native.Mathlib.Numerals.{add-one}
 use lib.Dec.{eqb, ltb}
-use lib.ListN.{length, getD, set, drop, replicate, length-set, length-replicate, getD-replicate, List·getD-append}
+use lib.ListN.{length, getD, set, drop, replicate, length-append, length-drop, length-set, length-replicate, getD-replicate, List·getD-append}
 use lib.Seq.{ext-getD, getD-set-same, getD-set-other, set-append-left, getD-append-seam}
 use borrow.Author.Tests.{eq-eqb, ne-eqb, lt-ltb, le-ltb}
-use Rattle.answer.specs.Fronts.{over}
-use Rattle.answer.proofs.Over.{over-at, over-over, length-over}
+use Rattle.answer.specs.declared.Answer.{Answer}
+use Rattle.answer.specs.declared.Answer.the-variants.{Done, Refused}
 use Rattle.netlist.specs.declared.gate.Gate.{Gate}
 use Rattle.netlist.specs.Gates.{takenOf, gateOf}
 use Rattle.netlist.specs.Net.{depths, mulOf, mulsOf, mults}
 use Rattle.netlist.specs.Words.{inputsOf, gatesOf, gatePlace, gateAt, gatesAt, netOf}
 use Rattle.netlist.proofs.Sim.{length-snoc, split, split-suc}
+use Rattle.netlist.proofs.Glued.{map-append}
 use Rattle.netlist.proofs.Words.{gates-snoc}
-use Rattle.meter.specs.Levels.{one, andKind, muxKind, kindCount, hits, hitsBelow, levelCount, levels, total}
-use Rattle.meter.specs.Counted.{levelsTo, Counts, CountedAs}
-use Rattle.meter.proofs.Depths.{over-stands, depths-count, gate-level}
+use Rattle.meter.specs.declared.Level.{Level}
+use Rattle.meter.specs.Levels.{one, andKind, muxKind, kindCount, hits, levelAt, levelsBelow, levelCount, levels, overLevels, leftLevels, total}
+use Rattle.meter.specs.Counted.{noGates, bump, withGate, tallied, Countable, Tallies}
+use Rattle.meter.proofs.Depths.{gate-level}
 
 -- gate g is of kind code k; the depth that ds has of it
 abbrev pub kindIs : List ℕ → ℕ → ℕ → Bool
@@ -29,9 +31,16 @@ kindIs net k g = eqb (getD net (gatePlace g) 0) k
 abbrev pub depthOf : List ℕ → List ℕ → ℕ → ℕ
 depthOf net ds g = getD ds (inputsOf net + g) 0
 
+-- neither count of a record is above m
+abbrev pub Small : ℕ → Level → Type 0
+Small m v = (v .ands ≤ m) × (v .muxes ≤ m)
+
 one-le : (t : Bool) → one t ≤ 1
 one-le true = omega arith
 one-le false = omega arith
+
+pub one-fits : {a : ℕ} (t : Bool) → a ≡ one t → a ≤ 1
+one-fits t e = omega (arith, one-le t)
 
 and-yes : (t : Bool) → t && true ≡ t
 and-yes true = refl
@@ -49,11 +58,6 @@ total-snoc : (l : List ℕ) (x : ℕ) → total (l ++ x ∷ []) ≡ total l + x
 unfolding total
 total-snoc [] x = omega arith
 total-snoc (y ∷ l) x = omega (arith, total-snoc l x)
-
-total-zeros : (n : ℕ) → total (replicate n 0) ≡ 0
-unfolding total
-total-zeros zero = refl
-total-zeros (suc n) = omega (arith, total-zeros n)
 
 one-more : (t : Bool) (d n : ℕ) → one (t && ltb d (suc n)) ≡ one (t && ltb d n) + one (t && eqb d n)
 one-more false d n = refl
@@ -79,12 +83,6 @@ module _ (net : List ℕ) (k : ℕ) where
   kinds-more g = rw (add-one g)
 
 module _ (net ds : List ℕ) (k : ℕ) where
-  -- no count is above the number of gates
-  hits-le : (l g : ℕ) → hits net ds k l g ≤ g
-  unfolding hits
-  hits-le l zero = omega arith
-  hits-le l (suc g) = omega (arith, hits-le l g, one-le (kindIs net k g && eqb (depthOf net ds g) l))
-
   -- the count at the gate's depth gains the gate, and every other is as it was
   here : (g : ℕ) → hits net ds k (depthOf net ds g) (suc g) ≡ hits net ds k (depthOf net ds g) g + one (kindIs net k g)
   unfolding hits
@@ -94,66 +92,125 @@ module _ (net ds : List ℕ) (k : ℕ) where
   unfolding hits
   elsewhere g l p = rw (ne-eqb (depthOf net ds g) l p, and-no, add-zero)
 
-  below-length : (g n : ℕ) → length (hitsBelow net ds k g n) ≡ n
-  unfolding hitsBelow
-  below-length g zero = refl
-  below-length g (suc n) = length-snoc (hitsBelow net ds k g n) _ ∙ ap suc (below-length g n)
-
-  below-at : (g n l : ℕ) → l < n → getD (hitsBelow net ds k g n) l 0 ≡ hits net ds k l g
-  unfolding hitsBelow
-  below-at g zero l h = absurd (omega arith)
-  below-at g (suc n) l h =
-      split-suc l n h
-      (λ q. List·getD-append (hitsBelow net ds k g n) _ 0 l (omega (arith, below-length g n)) ∙ below-at g n l q)
-      (λ e. let e′ : l ≡ length (hitsBelow net ds k g n) = omega (arith, below-length g n) in
-      ap (λ (j : ℕ). getD (hitsBelow net ds k g n ++ hits net ds k n g ∷ []) j 0) e′
-      ∙ getD-append-seam (hitsBelow net ds k g n) _ [] 0
-      ∙ ap (λ (j : ℕ). hits net ds k j g) (sym e))
+  hits-more : (l g : ℕ) → hits net ds k l (suc g) ≡ hits net ds k l g + one (kindIs net k g && eqb (depthOf net ds g) l)
+  unfolding hits
+  hits-more l g = refl
 
   hits-none : (l : ℕ) → hits net ds k l 0 ≡ 0
   unfolding hits
   hits-none l = refl
 
-  below-none : (n : ℕ) → hitsBelow net ds k 0 n ≡ replicate n 0
-  below-none n =
-      ext-getD 0 _ _ (below-length 0 n ∙ sym (length-replicate n 0))
-      (λ l h. let q : l < n = omega (arith, below-length 0 n) in
-      below-at 0 n l q ∙ hits-none l ∙ sym (getD-replicate n l 0 0 q))
+  -- depths that agree at the gates give the same counts
+  hits-agree : (ds′ : List ℕ) (l g : ℕ) → ((j : ℕ) → j < g → depthOf net ds j ≡ depthOf net ds′ j) → hits net ds k l g ≡ hits net ds′ k l g
+  unfolding hits
+  hits-agree ds′ l zero h = refl
+  hits-agree ds′ l (suc g) h = rw (h g (omega arith), hits-agree ds′ l g (λ j q. h j (omega arith))) refl
 
-  below-more : (g n : ℕ) → depthOf net ds g < n → set (hitsBelow net ds k g n) (depthOf net ds g) (hits net ds k (depthOf net ds g) g + one (kindIs net k g)) ≡ hitsBelow net ds k (suc g) n
+level-eq : (a b : Level) → a .ands ≡ b .ands → a .muxes ≡ b .muxes → a ≡ b
+level-eq a b p q i = record { ands = p i; muxes = q i }
+
+module _ (net ds : List ℕ) where
+  level-ands : (g l : ℕ) → levelAt net ds g l .ands ≡ hits net ds andKind l g
+  unfolding levelAt
+  level-ands g l = refl
+
+  level-muxes : (g l : ℕ) → levelAt net ds g l .muxes ≡ hits net ds muxKind l g
+  unfolding levelAt
+  level-muxes g l = refl
+
+  -- the record at the gate's depth gains the gate, and every other is as it was
+  level-here : (g : ℕ) → levelAt net ds (suc g) (depthOf net ds g) ≡ bump (levelAt net ds g (depthOf net ds g)) (getD net (gatePlace g) 0)
+  unfolding levelAt bump
+  level-here g = level-eq _ _ (here net ds andKind g) (here net ds muxKind g)
+
+  level-elsewhere : (g l : ℕ) → (depthOf net ds g ≡ l → ⊥) → levelAt net ds (suc g) l ≡ levelAt net ds g l
+  unfolding levelAt
+  level-elsewhere g l p = level-eq _ _ (elsewhere net ds andKind g l p) (elsewhere net ds muxKind g l p)
+
+  level-none : (l : ℕ) → levelAt net ds 0 l ≡ noGates
+  unfolding levelAt
+  level-none l = level-eq _ _ (hits-none net ds andKind l) (hits-none net ds muxKind l)
+
+  below-length : (g n : ℕ) → length (levelsBelow net ds g n) ≡ n
+  unfolding levelsBelow
+  below-length g zero = refl
+  below-length g (suc n) = length-snoc (levelsBelow net ds g n) _ ∙ ap suc (below-length g n)
+
+  below-at : (g n l : ℕ) → l < n → getD (levelsBelow net ds g n) l noGates ≡ levelAt net ds g l
+  unfolding levelsBelow
+  below-at g zero l h = absurd (omega arith)
+  below-at g (suc n) l h =
+      split-suc l n h
+      (λ q. List·getD-append (levelsBelow net ds g n) _ noGates l (omega (arith, below-length g n)) ∙ below-at g n l q)
+      (λ e. let e′ : l ≡ length (levelsBelow net ds g n) = omega (arith, below-length g n) in
+      ap (λ (j : ℕ). getD (levelsBelow net ds g n ++ levelAt net ds g n ∷ []) j noGates) e′
+      ∙ getD-append-seam (levelsBelow net ds g n) _ [] noGates
+      ∙ ap (levelAt net ds g) (sym e))
+
+  below-none : (n : ℕ) → levelsBelow net ds 0 n ≡ replicate n noGates
+  below-none n =
+      ext-getD noGates _ _ (below-length 0 n ∙ sym (length-replicate n noGates))
+      (λ l h. let q : l < n = omega (arith, below-length 0 n) in
+      below-at 0 n l q ∙ level-none l ∙ sym (getD-replicate n l noGates noGates q))
+
+  below-more : (g n : ℕ) → depthOf net ds g < n → set (levelsBelow net ds g n) (depthOf net ds g) (levelAt net ds (suc g) (depthOf net ds g)) ≡ levelsBelow net ds (suc g) n
   below-more g n h =
       let d = depthOf net ds g in
-      let v = hits net ds k d g + one (kindIs net k g) in
-      let old = hitsBelow net ds k g n in
+      let v = levelAt net ds (suc g) d in
+      let old = levelsBelow net ds g n in
       let long : length (set old d v) ≡ n = length-set old d v ∙ below-length g n in
-      ext-getD 0 _ _ (long ∙ sym (below-length (suc g) n)) (λ i l. at i (omega (arith, long)))
+      ext-getD noGates _ _ (long ∙ sym (below-length (suc g) n)) (λ i l. at i (omega (arith, long)))
     where
-      at : (i : ℕ) → i < n → getD (set (hitsBelow net ds k g n) (depthOf net ds g) (hits net ds k (depthOf net ds g) g + one (kindIs net k g))) i 0 ≡ getD (hitsBelow net ds k (suc g) n) i 0
+      at : (i : ℕ) → i < n → getD (set (levelsBelow net ds g n) (depthOf net ds g) (levelAt net ds (suc g) (depthOf net ds g))) i noGates ≡ getD (levelsBelow net ds (suc g) n) i noGates
       at i l =
-          let v = hits net ds k (depthOf net ds g) g + one (kindIs net k g) in
+          let v = levelAt net ds (suc g) (depthOf net ds g) in
           same-or-not i (depthOf net ds g)
-          (λ q. rw q (getD-set-same (hitsBelow net ds k g n) (depthOf net ds g) v 0 (omega (arith, below-length g n)) ∙ sym (here g) ∙ sym (below-at (suc g) n (depthOf net ds g) h)))
-          (λ q. getD-set-other (hitsBelow net ds k g n) (depthOf net ds g) i v 0 q ∙ below-at g n i l ∙ sym (elsewhere g i (λ r. q (sym r))) ∙ sym (below-at (suc g) n i l))
+          (λ q. rw q (getD-set-same (levelsBelow net ds g n) (depthOf net ds g) v noGates (omega (arith, below-length g n)) ∙ sym (below-at (suc g) n (depthOf net ds g) h)))
+          (λ q. getD-set-other (levelsBelow net ds g n) (depthOf net ds g) i v noGates q ∙ below-at g n i l ∙ sym (level-elsewhere g i (λ r. q (sym r))) ∙ sym (below-at (suc g) n i l))
 
-  -- Over the levels the counts sum to the number of gates of the kind.
-  total-more : (g n : ℕ) → total (hitsBelow net ds k (suc g) n) ≡ total (hitsBelow net ds k g n) + one (kindIs net k g && ltb (depthOf net ds g) n)
-  unfolding hitsBelow hits total
+  pub below-agree : (ds′ : List ℕ) (g n : ℕ) → ((j : ℕ) → j < g → depthOf net ds j ≡ depthOf net ds′ j) → levelsBelow net ds g n ≡ levelsBelow net ds′ g n
+  unfolding levelsBelow levelAt
+  below-agree ds′ g zero h = refl
+  below-agree ds′ g (suc n) h = rw (below-agree ds′ g n h, hits-agree net ds andKind ds′ n g h, hits-agree net ds muxKind ds′ n g h) refl
+
+-- Over the levels each count sums to the number of gates of its kind.
+module _ (net ds : List ℕ) (k : ℕ) (f : Level → ℕ) (counts : (g l : ℕ) → f (levelAt net ds g l) ≡ hits net ds k l g) where
+  below-total : (g n : ℕ) → total (map f (levelsBelow net ds g (suc n))) ≡ total (map f (levelsBelow net ds g n)) + hits net ds k n g
+  unfolding levelsBelow
+  below-total g n =
+      ap total (map-append f (levelsBelow net ds g n) (levelAt net ds g n ∷ []))
+      ∙ total-snoc (map f (levelsBelow net ds g n)) (f (levelAt net ds g n))
+      ∙ ap (λ (x : ℕ). total (map f (levelsBelow net ds g n)) + x) (counts g n)
+
+  total-none : (n : ℕ) → total (map f (levelsBelow net ds 0 n)) ≡ 0
+  unfolding levelsBelow total
+  total-none zero = refl
+  total-none (suc n) = omega (arith, below-total 0 n, total-none n, hits-none net ds k n)
+
+  total-more : (g n : ℕ) → total (map f (levelsBelow net ds (suc g) n)) ≡ total (map f (levelsBelow net ds g n)) + one (kindIs net k g && ltb (depthOf net ds g) n)
+  unfolding levelsBelow total
   total-more g zero = rw (le-ltb (depthOf net ds g) 0 (omega arith), and-no)
   total-more g (suc n) =
-      omega (arith, total-more g n, total-snoc (hitsBelow net ds k (suc g) n) (hits net ds k n (suc g)), total-snoc (hitsBelow net ds k g n) (hits net ds k n g), one-more (kindIs net k g) (depthOf net ds g) n)
+      omega (arith, total-more g n, below-total (suc g) n, below-total g n, hits-more net ds k n g, one-more (kindIs net k g) (depthOf net ds g) n)
 
-  total-kinds : (g n : ℕ) → ((j : ℕ) → j < g → depthOf net ds j < n) → total (hitsBelow net ds k g n) ≡ kindCount net k g
+  total-kinds : (g n : ℕ) → ((j : ℕ) → j < g → depthOf net ds j < n) → total (map f (levelsBelow net ds g n)) ≡ kindCount net k g
   unfolding kindCount
-  total-kinds zero n h = rw (below-none n) (total-zeros n)
+  total-kinds zero n h = total-none n
   total-kinds (suc g) n h =
       let e : ltb (depthOf net ds g) n ≡ true = lt-ltb _ _ (h g (omega arith)) in
       let ih = total-kinds g n (λ j l. h j (omega arith)) in
       total-more g n ∙ rw (e, and-yes, ih)
 
-pub levels-sum : (net : List ℕ) (k : ℕ) → total (levels net k) ≡ kindCount net k (gatesOf net)
+pub levels-sum : (net : List ℕ)
+    → (total (map (λ l. l .ands) (levels net)) ≡ kindCount net andKind (gatesOf net)) × (total (map (λ l. l .muxes) (levels net)) ≡ kindCount net muxKind (gatesOf net))
 unfolding levels
-levels-sum net k =
-    total-kinds net (depths (netOf net)) k (gatesOf net) (levelCount (netOf net)) (λ j l. gate-level (netOf net) j)
+levels-sum net =
+    let D = depths (netOf net) in
+    let n = levelCount (netOf net) in
+    let low : (j : ℕ) → j < gatesOf net → depthOf net D j < n = λ j l. gate-level (netOf net) j in (
+      total-kinds net D andKind (λ l. l .ands) (level-ands net D) (gatesOf net) n low,
+      total-kinds net D muxKind (λ l. l .muxes) (level-muxes net D) (gatesOf net) n low,
+    )
 
 -- The multiplications are the gates of the two kinds.
 mul-of : (k a b c : ℕ) → mulOf (gateOf k a b c) ≡ one (eqb k andKind) + one (eqb k muxKind)
@@ -181,64 +238,6 @@ kinds-muls net (suc g) =
 pub kinds-mults : (net : List ℕ) → kindCount net andKind (gatesOf net) + kindCount net muxKind (gatesOf net) ≡ mults (netOf net)
 kinds-mults net = kinds-muls net (gatesOf net)
 
--- For the pass over the gates, of either kind.
-module _ (net : List ℕ) (k : ℕ) where
-  levels-length : (g : ℕ) → length (levelsTo net k g) ≡ levelCount (netOf net)
-  unfolding levelsTo
-  levels-length g = below-length net (depths (netOf net)) k g (levelCount (netOf net))
-
-  levels-none : levelsTo net k 0 ≡ replicate (levelCount (netOf net)) 0
-  unfolding levelsTo
-  levels-none = below-none net (depths (netOf net)) k (levelCount (netOf net))
-
-  pub levels-whole : levelsTo net k (gatesOf net) ≡ levels net k
-  unfolding levelsTo levels
-  levels-whole = refl
-
-  module _ (g : ℕ) (old : List ℕ) {v : List ℕ} (e : v ≡ over (levelsTo net k g) old) {l : ℕ} (is : l ≡ getD (depths (netOf net)) (inputsOf net + g) 0) where
-    level-is : getD v l 0 ≡ hits net (depths (netOf net)) k (getD (depths (netOf net)) (inputsOf net + g) 0) g
-    unfolding levelsTo
-    level-is =
-        let D = depths (netOf net) in
-        let n = levelCount (netOf net) in
-        rw (e, is)
-        (over-at (hitsBelow net D k g n) old (getD D (inputsOf net + g) 0) (omega (arith, below-length net D k g n, gate-level (netOf net) g))
-        ∙ below-at net D k g n (getD D (inputsOf net + g) 0) (gate-level (netOf net) g))
-
-    level-le : getD v l 0 ≤ g
-    level-le = omega (arith, level-is, hits-le net (depths (netOf net)) k (getD (depths (netOf net)) (inputsOf net + g) 0) g)
-
-    pub level-more : {a : ℕ} → a ≡ one (kindIs net k g) → set v l (getD v l 0 + a) ≡ over (levelsTo net k (g + 1)) old
-    unfolding levelsTo over
-    level-more {a} h =
-        let D = depths (netOf net) in
-        let n = levelCount (netOf net) in
-        let d = getD D (inputsOf net + g) 0 in
-        let now : List ℕ = hitsBelow net D k g n in
-        let long : length now ≡ n = below-length net D k g n in
-        let long′ : length (hitsBelow net D k (suc g) n) ≡ n = below-length net D k (suc g) n in
-        rw (level-is, e, is, h, add-one g, long, long′)
-        (set-append-left now (drop n old) d _ (omega (arith, gate-level (netOf net) g))
-        ∙ ap (λ (t : List ℕ). t ++ drop n old) (below-more net D k g n (gate-level (netOf net) g)))
-
-    pub level-fits : {a : ℕ} → a ≡ one (kindIs net k g) → getD v l 0 + a ≤ g + 1
-    level-fits h = omega (arith, level-le, one-le (kindIs net k g))
-
--- where gate g is counted
-module _ {net : List ℕ} {i n : ℕ} {ds ands muxes : List ℕ} (s : Counts net i n ds ands muxes) (g : ℕ) (less : g < n) where
-  pub level-of : getD ds (i + g) 0 ≡ getD (depths (netOf net)) (inputsOf net + g) 0
-  level-of =
-      let D = depths (netOf net) in
-      ap (λ (l : List ℕ). getD l (i + g) 0) (s .stand)
-      ∙ over-at D ds (i + g) (omega (arith, depths-count net, s .lent .inputs, s .lent .gates))
-      ∙ ap (λ (j : ℕ). getD D (j + g) 0) (s .lent .inputs)
-
-  pub level-ands : getD ds (i + g) 0 < length ands
-  level-ands = omega (arith, level-of, gate-level (netOf net) g, s .andRoom)
-
-  pub level-muxes : getD ds (i + g) 0 < length muxes
-  level-muxes = omega (arith, level-of, gate-level (netOf net) g, s .muxRoom)
-
 -- the number of gates counted so far
 module _ (net : List ℕ) (g : ℕ) {n a m : ℕ} (e : n ≡ kindCount net andKind g + kindCount net muxKind g) (p : a ≡ one (kindIs net andKind g)) (q : m ≡ one (kindIs net muxKind g)) where
   pub count-fits : n + a + m ≤ g + g + 2
@@ -250,45 +249,111 @@ module _ (net : List ℕ) (g : ℕ) {n a m : ℕ} (e : n ≡ kindCount net andKi
 pub count-none : (net : List ℕ) → 0 ≡ kindCount net andKind 0 + kindCount net muxKind 0
 count-none net = omega (arith, kinds-none net andKind, kinds-none net muxKind)
 
-pub counted : {net ands muxes ands′ muxes′ : List ℕ} (g : ℕ) {n : ℕ} → g ≡ gatesOf net → n ≡ kindCount net andKind g + kindCount net muxKind g
-    → ands′ ≡ over (levelsTo net andKind g) ands → muxes′ ≡ over (levelsTo net muxKind g) muxes → CountedAs net ands muxes n ands′ muxes′
-counted g e h a m = record { all = rw (← e) h; andsTold = rw (← e) a; muxesTold = rw (← e) m }
+-- A front of records over a list.
+pub length-over-levels : (front old : List Level) → length front ≤ length old → length (overLevels front old) ≡ length old
+unfolding overLevels
+length-over-levels front old l = length-append front _ ∙ omega (arith, length-drop (length front) old)
 
--- For the levels cleared and then counted.
-module _ (net : List ℕ) (n : ℕ) (e : n ≡ levelCount (netOf net)) where
-  module _ (old : List ℕ) {mid : List ℕ} (h : mid ≡ over (replicate n 0) old) where
-    cleared : (k : ℕ) → mid ≡ over (levelsTo net k 0) mid
-    cleared k =
-        over-stands (replicate n 0) old h
-        ∙ ap (λ (f : List ℕ). over f mid) (ap (λ (j : ℕ). replicate j 0) e ∙ sym (levels-none net k))
+over-levels-at : (front old : List Level) (i : ℕ) → i < length front → getD (overLevels front old) i noGates ≡ getD front i noGates
+unfolding overLevels
+over-levels-at front old i h = List·getD-append front _ noGates i h
 
-    cleared-length : levelCount (netOf net) ≤ length old → length mid ≡ length old
-    cleared-length l = ap length h ∙ length-over (replicate n 0) old (omega (arith, length-replicate {A = ℕ} n 0))
+pub levels-kept : {r : Answer} {x y z : ℕ} (front old : List Level) → r ≡ Refused x y z → old ≡ leftLevels r front old
+unfolding leftLevels
+levels-kept front old e = rw e
 
-    through : (k g : ℕ) {new : List ℕ} → new ≡ over (levelsTo net k g) mid → new ≡ over (levelsTo net k g) old
-    through k g w =
-        w
-        ∙ ap (over (levelsTo net k g)) h
-        ∙ over-over (replicate n 0) (levelsTo net k g) old (omega (arith, length-replicate {A = ℕ} n 0, levels-length net k g))
+pub levels-made : {r : Answer} (front old : List Level) → r ≡ Done → overLevels front old ≡ leftLevels r front old
+unfolding leftLevels
+levels-made front old e = rw e
 
-  module _ (ands muxes : List ℕ) {ands₁ muxes₁ : List ℕ} (a : ands₁ ≡ over (replicate n 0) ands) (m : muxes₁ ≡ over (replicate n 0) muxes) where
-    pub levels-stand : {i g : ℕ} {ds : List ℕ} → Counts net i g ds ands muxes
-        → Counts net i g ds ands₁ muxes₁ × (ands₁ ≡ over (levelsTo net andKind 0) ands₁) × (muxes₁ ≡ over (levelsTo net muxKind 0) muxes₁)
-    levels-stand s = (
+pub none-over : (net ds : List ℕ) (old : List Level) → overLevels (levelsBelow net ds 0 0) old ≡ old
+unfolding overLevels levelsBelow
+none-over net ds old = refl
+
+-- For the loop that clears the records: it starts, and one more is cleared.
+pub clear-none : (old : List Level) → old ≡ overLevels (replicate 0 noGates) old
+unfolding overLevels
+clear-none old = refl
+
+clear-suc : (n : ℕ) (v : Level) (old : List Level) → n < length old → set (replicate n v ++ drop n old) n v ≡ replicate (suc n) v ++ drop (suc n) old
+clear-suc n v [] l = absurd (omega arith)
+clear-suc zero v (x ∷ old) l = refl
+clear-suc (suc n) v (x ∷ old) l = ap (λ (t : List Level). v ∷ t) (clear-suc n v old (omega arith))
+
+pub clear-more : (n : ℕ) (old : List Level) → n < length old → set (overLevels (replicate n noGates) old) n noGates ≡ overLevels (replicate (suc n) noGates) old
+unfolding overLevels
+clear-more n old l =
+    ap (λ (k : ℕ). set (replicate n noGates ++ drop k old) n noGates) (length-replicate n noGates)
+    ∙ clear-suc n noGates old l
+    ∙ ap (λ (k : ℕ). replicate (suc n) noGates ++ drop k old) (sym (length-replicate (suc n) noGates))
+
+pub length-cleared : (n : ℕ) (old : List Level) → n ≤ length old → length (overLevels (replicate n noGates) old) ≡ length old
+length-cleared n old l = length-over-levels (replicate n noGates) old (omega (arith, length-replicate n noGates))
+
+-- For the loop that counts: lengths stay, no count is above the number of gates so far, and one more gate is counted.
+module _ (net ds : List ℕ) (ls : List Level) where
+  pub length-tallied : (g : ℕ) → length (tallied net ds g ls) ≡ length ls
+  unfolding tallied withGate
+  length-tallied zero = refl
+  length-tallied (suc g) = length-set (tallied net ds g ls) _ _ ∙ length-tallied g
+
+  pub tallied-none : ls ≡ tallied net ds 0 ls
+  unfolding tallied
+  tallied-none = refl
+
+  pub tallied-more : (g : ℕ) → set (tallied net ds g ls) (depthOf net ds g) (bump (getD (tallied net ds g ls) (depthOf net ds g) noGates) (getD net (gatePlace g) 0)) ≡ tallied net ds (suc g) ls
+  unfolding tallied withGate
+  tallied-more g = refl
+
+  bump-le : (v : Level) (k m : ℕ) → Small m v → Small (suc m) (bump v k)
+  unfolding bump
+  bump-le v k m h = (omega (arith, h .0, one-le (eqb k andKind)), omega (arith, h .1, one-le (eqb k muxKind)))
+
+  grown : (m : ℕ) (v : Level) → Small m v → Small (suc m) v
+  grown m v h = (omega (arith, h .0), omega (arith, h .1))
+
+  pub tallied-small : (l g : ℕ) → getD ls l noGates ≡ noGates → ((k : ℕ) → k < g → depthOf net ds k < length ls) → Small g (getD (tallied net ds g ls) l noGates)
+  unfolding tallied withGate
+  tallied-small l zero e h = rw e (omega arith, omega arith)
+  tallied-small l (suc g) e h =
+      let T = tallied net ds g ls in
+      let d = depthOf net ds g in
+      let v = bump (getD T d noGates) (getD net (gatePlace g) 0) in
+      let ih = tallied-small l g e (λ k q. h k (omega arith)) in
+      same-or-not l d
+      (λ q. subst (Small (suc g)) (sym (ap (λ (j : ℕ). getD (set T d v) j noGates) q ∙ getD-set-same T d v noGates (omega (arith, length-tallied g, h g (omega arith)))))
+      (bump-le (getD T d noGates) _ g (subst (λ (j : ℕ). Small g (getD T j noGates)) q ih)))
+      (λ q. subst (Small (suc g)) (sym (getD-set-other T d l v noGates q)) (grown g _ ih))
+
+-- For the levels cleared and then counted: the first leaves what the second asks, and both together count.
+module _ {net ds : List ℕ} {g c : ℕ} (s : Countable net ds g c) (old : List Level) {mid : List Level} (l : c ≤ length old) (e : mid ≡ overLevels (replicate c noGates) old) where
+  pub levels-stand : Tallies net ds g mid
+  levels-stand =
+      let long : length mid ≡ length old = ap length e ∙ length-cleared c old l in
       record {
-        lent = s .lent;
-        stand = s .stand;
-        andRoom = omega (arith, cleared-length ands a (s .andRoom), s .andRoom);
-        muxRoom = omega (arith, cleared-length muxes m (s .muxRoom), s .muxRoom);
-      },
-      cleared ands a andKind,
-      cleared muxes m muxKind,
-    )
+        countable = record { limit = s .limit; word = s .word; wire = s .wire; low = λ k h. omega (arith, s .low k h) };
+        none = λ k h.
+            ap (λ (t : List Level). getD t (depthOf net ds k) noGates) e
+            ∙ over-levels-at (replicate c noGates) old (depthOf net ds k) (omega (arith, length-replicate c noGates, s .low k h))
+            ∙ getD-replicate c (depthOf net ds k) noGates noGates (s .low k h);
+      }
 
-    pub levels-counted : {k : ℕ} {ands′ muxes′ : List ℕ} → CountedAs net ands₁ muxes₁ k ands′ muxes′ → CountedAs net ands muxes k ands′ muxes′
-    levels-counted r =
-        record {
-          all = r .all;
-          andsTold = through ands a andKind (gatesOf net) (r .andsTold);
-          muxesTold = through muxes m muxKind (gatesOf net) (r .muxesTold);
-        }
+  counts : (n : ℕ) → n ≤ g → tallied net ds n mid ≡ overLevels (levelsBelow net ds n c) old
+  unfolding tallied withGate overLevels
+  counts zero h = e ∙ ap (λ (f : List Level). overLevels f old) (sym (below-none net ds c))
+  counts (suc n) h =
+      let d = depthOf net ds n in
+      let now : List Level = levelsBelow net ds n c in
+      let rest : List Level = drop (length now) old in
+      let low : d < c = s .low n (omega arith) in
+      let ih : tallied net ds n mid ≡ now ++ rest = counts n (omega arith) in
+      let is : getD (now ++ rest) d noGates ≡ levelAt net ds n d = List·getD-append now rest noGates d (omega (arith, below-length net ds n c)) ∙ below-at net ds n c d low in
+      ap (λ (t : List Level). set t d (bump (getD t d noGates) (getD net (gatePlace n) 0))) ih
+      ∙ ap (λ (v : Level). set (now ++ rest) d (bump v (getD net (gatePlace n) 0))) is
+      ∙ ap (set (now ++ rest) d) (sym (level-here net ds n))
+      ∙ set-append-left now rest d _ (omega (arith, below-length net ds n c))
+      ∙ ap (λ (t : List Level). t ++ rest) (below-more net ds n c low)
+      ∙ ap (λ (k : ℕ). levelsBelow net ds (suc n) c ++ drop k old) (below-length net ds n c ∙ sym (below-length net ds (suc n) c))
+
+  pub both-count : {new : List Level} → new ≡ tallied net ds g mid → new ≡ overLevels (levelsBelow net ds g c) old
+  both-count h = h ∙ counts g (omega arith)

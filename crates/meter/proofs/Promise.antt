@@ -1,91 +1,104 @@
--- The meter's promise, put together: refused before the levels, at the levels, or done.
-use Prim.Native.Nat.{ℕ}
-use mathlib.Core.Path.{_≡_, refl, sym, ap, _∙_}
+-- The meter's promise, put together: refused before the levels, at the levels, or planned; and then counted.
+use Prim.Native.Nat.{ℕ, _+_, _<_, _≤_}
+use mathlib.Core.Path.{_≡_, refl, sym, ap, subst, _∙_}
 use mathlib.Core.List.{List}
 use native.Mathlib.Omega.{arith}
-use lib.Dec.{ltb}
-use lib.ListN.{length}
-use borrow.Author.Tests.{ltb-false}
+use lib.ListN.{length, getD}
+use borrow.Author.Tests.{lt-ltb, le-ltb}
 use Rattle.answer.specs.declared.Answer.{Answer}
 use Rattle.answer.specs.declared.Answer.the-variants.{Done, Refused}
-use Rattle.answer.specs.Answers.{_▹_, refuse}
 use Rattle.answer.specs.Fronts.{over, left}
-use Rattle.answer.proofs.Rows.{first-done, then-done, refuse-done, stop, go}
-use Rattle.answer.proofs.Over.{kept, made}
+use Rattle.answer.proofs.Rows.{stop, go, refuse-yes, refuse-not}
+use Rattle.answer.proofs.Over.{over-at, length-over, made}
 use Rattle.netlist.specs.Net.{depths}
-use Rattle.netlist.specs.Words.{inputsOf, gatesOf, netOf}
+use Rattle.netlist.specs.Words.{inputsOf, gatesOf, gatePlace, netOf}
+use Rattle.meter.specs.declared.Level.{Level}
 use Rattle.meter.specs.declared.Measured.{Measured}
-use Rattle.meter.specs.Levels.{andKind, muxKind, levelCount}
+use Rattle.meter.specs.declared.Plan.{Plan}
+use Rattle.meter.specs.Levels.{andKind, muxKind, kindCount, levelCount, levels, levelsBelow, overLevels, leftLevels}
 use Rattle.meter.specs.Meter.{depthsAnswer, levelsAnswer, meterAnswer, MeteredAs}
-use Rattle.meter.specs.Passes.{depthsTo, Lent, MeasuredAs}
-use Rattle.meter.specs.Counted.{Counts, CountedAs}
-use Rattle.meter.proofs.Depths.{over-stands, depths-whole}
-use Rattle.meter.proofs.Levels.{levels-whole, kinds-mults}
-use Rattle.meter.proofs.Judged.{none, some, judged-lent, long}
+use Rattle.meter.specs.Passes.{Lent, MeasuredAs}
+use Rattle.meter.specs.Counted.{noPlan, Countable, PlannedAs}
+use Rattle.meter.proofs.Depths.{depths-count, gate-level}
+use Rattle.meter.proofs.Levels.{kinds-mults, below-agree, none-over, levels-kept, levels-made}
+use Rattle.meter.proofs.Judged.{none, some, judged-lent}
 
-module _ {net ds : List ℕ} {p : Measured} {ds′ : List ℕ} (m : MeasuredAs net ds p ds′) (ands muxes : List ℕ) where
+nothing-countable : (net ds : List ℕ) → Countable net ds 0 0
+nothing-countable net ds =
+    record { limit = omega arith; word = λ k h. absurd (omega arith); wire = λ k h. absurd (omega arith); low = λ k h. absurd (omega arith) }
+
+-- a refusal leaves nothing to count
+refused-plan : {net ds ds′ : List ℕ} {room x y z : ℕ} {a : Answer} {q : Plan} → q ≡ noPlan a → a ≡ Refused x y z → a ≡ meterAnswer net (length ds) room
+    → ds′ ≡ left (depthsAnswer net (length ds)) (depths (netOf net)) ds → PlannedAs net ds room q ds′
+unfolding noPlan
+refused-plan {net} {ds} {ds′} {room} is h e f =
+    subst (λ (q : Plan). PlannedAs net ds room q ds′) (sym is)
+    record {
+      answered = e;
+      deep = none _ h;
+      multiplied = none _ h;
+      filled = f;
+      countable = nothing-countable net ds′;
+      fits = omega arith;
+      counts = λ ls. none-over net ds′ ls ∙ levels-kept _ _ h;
+    }
+
+module _ {net ds : List ℕ} {p : Measured} {ds′ : List ℕ} (m : MeasuredAs net ds p ds′) where
   fills : ds′ ≡ left (depthsAnswer net (length ds)) (depths (netOf net)) ds
   fills = m .filled ∙ ap (λ (r : Answer). left r (depths (netOf net)) ds) (m .answered)
 
-  pub unmetered : {x y z : ℕ} → p .answer ≡ Refused x y z → MeteredAs net ds ands muxes (record { answer = p .answer; depth = 0; multiplications = 0 }) ds′ ands muxes
+  pub unmeasured-plan : {room x y z : ℕ} {q : Plan} → p .answer ≡ Refused x y z → q ≡ noPlan (p .answer) → PlannedAs net ds room q ds′
   unfolding meterAnswer
-  unmetered h =
-      record {
-        answered = stop _ (m .answered) h;
-        deep = none _ h;
-        multiplied = none _ h;
-        filled = fills;
-        andsTold = kept _ _ h;
-        muxesTold = kept _ _ h;
-      }
+  unmeasured-plan h is = refused-plan is h (stop _ (m .answered) h) fills
 
-  module _ (d : p .answer ≡ Done) {r : Answer} (e : r ≡ refuse 8 3 (length ands) (ltb (length ands) (p .levels)) ▹ refuse 8 3 (length muxes) (ltb (length muxes) (p .levels))) where
+  module _ (d : p .answer ≡ Done) where
     tall-is : p .levels ≡ levelCount (netOf net)
     tall-is = m .tall ∙ sym (some _ d)
 
-    row : r ≡ levelsAnswer net (length ands) (length muxes)
-    unfolding levelsAnswer
-    row = rw tall-is at e
+    pub roomless-plan : {room : ℕ} {q : Plan} → room < p .levels → q ≡ noPlan (Refused 8 3 room) → PlannedAs net ds room q ds′
+    unfolding meterAnswer levelsAnswer
+    roomless-plan {room} l is =
+        refused-plan is refl (go (m .answered) d (refuse-yes _ _ _ (lt-ltb room (levelCount (netOf net)) (omega (arith, tall-is))))) fills
 
-    whole : r ≡ meterAnswer net (length ds) (length ands) (length muxes)
-    unfolding meterAnswer
-    whole = go (m .answered) d row
+    pub lent : Lent net (inputsOf net) (gatesOf net) ds
+    lent = judged-lent (m .answered) d
 
-    pub roomless : {x y z : ℕ} → r ≡ Refused x y z → MeteredAs net ds ands muxes (record { answer = r; depth = 0; multiplications = 0 }) ds′ ands muxes
-    roomless h =
+    stands : ds′ ≡ over (depths (netOf net)) ds
+    stands = m .filled ∙ sym (made _ _ d)
+
+    depth-at : (g : ℕ) → g < gatesOf net → getD ds′ (inputsOf net + g) 0 ≡ getD (depths (netOf net)) (inputsOf net + g) 0
+    depth-at g l =
+        ap (λ (v : List ℕ). getD v (inputsOf net + g) 0) stands ∙ over-at (depths (netOf net)) ds (inputsOf net + g) (omega (arith, depths-count net))
+
+    all-countable : Countable net ds′ (gatesOf net) (levelCount (netOf net))
+    all-countable =
+        let long : length ds′ ≡ length ds = ap length stands ∙ length-over (depths (netOf net)) ds (omega (arith, depths-count net, lent .room)) in
         record {
-          answered = whole;
-          deep = none _ h;
-          multiplied = none _ h;
-          filled = fills;
-          andsTold = kept _ _ h;
-          muxesTold = kept _ _ h;
+          limit = lent .sound .limits .gates;
+          word = λ k h. omega (arith, lent .sound .size);
+          wire = λ k h. omega (arith, lent .room);
+          low = λ k h. omega (arith, depth-at k h, gate-level (netOf net) k);
         }
 
-    module _ (h : r ≡ Done) where
-      pub roomy : Counts net (inputsOf net) (gatesOf net) ds′ ands muxes × (p .levels ≡ levelCount (netOf net))
-      unfolding levelsAnswer
-      roomy =
-          let s : Lent net (inputsOf net) (gatesOf net) ds = judged-lent (m .answered) d in
-          let w : ds′ ≡ over (depths (netOf net)) ds = m .filled ∙ sym (made _ _ d) in
-          let f : ds′ ≡ over (depthsTo net (gatesOf net)) ds = w ∙ ap (λ (l : List ℕ). over l ds) (sym (depths-whole net)) in (
-            record {
-              lent = record { sound = s .sound; inputs = refl; gates = refl; room = omega (arith, long s f, s .room) };
-              stand = over-stands (depths (netOf net)) ds w;
-              andRoom = ltb-false _ _ (refuse-done _ _ _ _ (first-done _ _ (sym row ∙ h)));
-              muxRoom = ltb-false _ _ (refuse-done _ _ _ _ (then-done _ _ (sym row ∙ h)));
-            },
-            tall-is,
-          )
+    pub planned : {room n : ℕ} → p .levels ≤ room → n ≡ kindCount net andKind (gatesOf net) + kindCount net muxKind (gatesOf net)
+        → PlannedAs net ds room (record { metered = record { answer = Done; depth = p .depth; multiplications = n }; gates = gatesOf net; levels = p .levels }) ds′
+    unfolding meterAnswer levelsAnswer levels
+    planned {room} l h =
+        record {
+          answered = go (m .answered) d (sym (refuse-not _ _ _ (le-ltb room (levelCount (netOf net)) (omega (arith, tall-is)))));
+          deep = m .deep ∙ sym (some _ d) ∙ some _ refl;
+          multiplied = h ∙ kinds-mults net ∙ some _ refl;
+          filled = fills;
+          countable = subst (Countable net ds′ (gatesOf net)) (sym tall-is) all-countable;
+          fits = l;
+          counts = λ ls.
+              ap (λ (c : ℕ). overLevels (levelsBelow net ds′ (gatesOf net) c) ls) tall-is
+              ∙ ap (λ (f : List Level). overLevels f ls) (below-agree net ds′ (depths (netOf net)) (gatesOf net) (levelCount (netOf net)) depth-at)
+              ∙ levels-made _ _ refl;
+        }
 
-      pub metered : {n : ℕ} {ands′ muxes′ : List ℕ} → CountedAs net ands muxes n ands′ muxes′
-          → MeteredAs net ds ands muxes (record { answer = Done; depth = p .depth; multiplications = n }) ds′ ands′ muxes′
-      metered {n} {ands′} {muxes′} c =
-          record {
-            answered = sym h ∙ whole;
-            deep = m .deep ∙ sym (some _ d) ∙ some _ refl;
-            multiplied = c .all ∙ kinds-mults net ∙ some _ refl;
-            filled = fills;
-            andsTold = c .andsTold ∙ ap (λ (l : List ℕ). over l ands) (levels-whole net andKind) ∙ made _ _ refl;
-            muxesTold = c .muxesTold ∙ ap (λ (l : List ℕ). over l muxes) (levels-whole net muxKind) ∙ made _ _ refl;
-          }
+-- what was planned, counted
+pub metered : {net ds ds′ : List ℕ} {ls ls′ : List Level} {p : Plan} → PlannedAs net ds (length ls) p ds′
+    → ls′ ≡ overLevels (levelsBelow net ds′ (p .gates) (p .levels)) ls → MeteredAs net ds ls (p .metered) ds′ ls′
+metered {ls = ls} m e =
+    record { answered = m .answered; deep = m .deep; multiplied = m .multiplied; filled = m .filled; counted = e ∙ m .counts ls }

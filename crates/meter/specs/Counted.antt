@@ -1,27 +1,63 @@
--- The pass that counts the gates of a measured netlist by depth: what it is lent, and what it leaves.
-use Prim.Native.Nat.{ℕ, _+_, _≤_}
+-- The pass that counts the gates of a measured netlist by depth: what is left to it, what it is lent, and what it leaves.
+use Prim.Native.Nat.{ℕ, zero, suc, _+_, _<_, _≤_}
 use mathlib.Core.Path.{_≡_}
 use mathlib.Core.List.{List}
-use lib.ListN.{length}
-use Rattle.answer.specs.Fronts.{over}
-use Rattle.netlist.specs.Net.{depths}
-use Rattle.netlist.specs.Words.{gatesOf, netOf}
-use Rattle.meter.specs.Levels.{andKind, muxKind, kindCount, hitsBelow, levelCount}
-use Rattle.meter.specs.Passes.{Lent}
+use lib.ListN.{length, getD, set}
+use lib.Dec.{eqb}
+use Rattle.answer.specs.declared.Answer.{Answer}
+use Rattle.answer.specs.Fronts.{left}
+use Rattle.netlist.specs.Net.{depths, depth, mults}
+use Rattle.netlist.specs.Words.{inputsOf, gatePlace, netOf}
+use Rattle.netlist.specs.Check.{gateLimit}
+use Rattle.meter.specs.declared.Level.{Level}
+use Rattle.meter.specs.declared.Plan.{Plan}
+use Rattle.meter.specs.declared.Spot.{Spot}
+use Rattle.meter.specs.Levels.{one, andKind, muxKind, levels, levelsBelow, overLevels, leftLevels}
+use Rattle.meter.specs.Meter.{depthsAnswer, meterAnswer, ifDone}
 
--- the level records' halves of kind code k, of the first g gates
-unfoldable pub levelsTo : List ℕ → ℕ → ℕ → List ℕ
-levelsTo net k g = hitsBelow net (depths (netOf net)) k g (levelCount (netOf net))
+-- nothing to count after a refusal
+unfoldable pub noPlan : Answer → Plan
+noPlan a = record { metered = record { answer = a; depth = 0; multiplications = 0 }; gates = 0; levels = 0 }
 
--- the depths stand, and each level list has a word for each level
-pub record Counts (net : List ℕ) (i g : ℕ) (ds ands muxes : List ℕ) : Type 0 where
-  pub lent : Lent net i g ds
-  pub stand : ds ≡ over (depths (netOf net)) ds
-  pub andRoom : levelCount (netOf net) ≤ length ands
-  pub muxRoom : levelCount (netOf net) ≤ length muxes
+-- where gate g is counted, and as what
+unfoldable pub spotOf : List ℕ → List ℕ → ℕ → Spot
+spotOf net ds g = record { at = getD ds (inputsOf net + g) 0; kind = getD net (gatePlace g) 0 }
 
--- What is left in the two level lists, and how many gates are counted there.
-pub record CountedAs (net ands muxes : List ℕ) (n : ℕ) (ands′ muxes′ : List ℕ) : Type 0 where
-  pub all : n ≡ kindCount net andKind (gatesOf net) + kindCount net muxKind (gatesOf net)
-  pub andsTold : ands′ ≡ over (levelsTo net andKind (gatesOf net)) ands
-  pub muxesTold : muxes′ ≡ over (levelsTo net muxKind (gatesOf net)) muxes
+abbrev pub noGates : Level
+noGates = record { ands = 0; muxes = 0 }
+
+-- a record with a gate of kind code k more
+unfoldable pub bump : Level → ℕ → Level
+bump v k = record { ands = v .ands + one (eqb k andKind); muxes = v .muxes + one (eqb k muxKind) }
+
+-- gate g counted in the records ls
+unfoldable pub withGate : List ℕ → List ℕ → ℕ → List Level → List Level
+withGate net ds g ls = set ls (getD ds (inputsOf net + g) 0) (bump (getD ls (getD ds (inputsOf net + g) 0) noGates) (getD net (gatePlace g) 0))
+
+-- the first g gates counted in the records ls
+unfoldable pub tallied : List ℕ → List ℕ → ℕ → List Level → List Level
+tallied net ds zero ls = ls
+tallied net ds (suc g) ls = withGate net ds g (tallied net ds g ls)
+
+-- g gates that can be counted in c records: their words and their depths stand, and each depth is below c
+pub record Countable (net ds : List ℕ) (g c : ℕ) : Type 0 where
+  pub limit : g ≤ gateLimit
+  pub word : (k : ℕ) → k < g → gatePlace k < length net
+  pub wire : (k : ℕ) → k < g → inputsOf net + k < length ds
+  pub low : (k : ℕ) → k < g → getD ds (inputsOf net + k) 0 < c
+
+-- the same for the records ls, which count no gate at these depths
+pub record Tallies (net ds : List ℕ) (g : ℕ) (ls : List Level) : Type 0 where
+  pub countable : Countable net ds g (length ls)
+  pub none : (k : ℕ) → k < g → getD ls (getD ds (inputsOf net + k) 0) noGates ≡ noGates
+
+-- What is returned by a call that was lent net, ds and room records, what it leaves in ds, and what is left to count:
+-- whatever the records hold, the counts written over them are what the answer leaves.
+pub record PlannedAs (net ds : List ℕ) (room : ℕ) (p : Plan) (ds′ : List ℕ) : Type 0 where
+  pub answered : p .metered .answer ≡ meterAnswer net (length ds) room
+  pub deep : p .metered .depth ≡ ifDone (p .metered .answer) (depth (netOf net))
+  pub multiplied : p .metered .multiplications ≡ ifDone (p .metered .answer) (mults (netOf net))
+  pub filled : ds′ ≡ left (depthsAnswer net (length ds)) (depths (netOf net)) ds
+  pub countable : Countable net ds′ (p .gates) (p .levels)
+  pub fits : p .levels ≤ room
+  pub counts : (ls : List Level) → overLevels (levelsBelow net ds′ (p .gates) (p .levels)) ls ≡ leftLevels (p .metered .answer) (levels net) ls

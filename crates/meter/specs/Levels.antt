@@ -3,10 +3,13 @@
 use Prim.Native.Nat.{ℕ, zero, suc, _+_}
 use mathlib.Core.Bool.{Bool, true, false, _&&_}
 use mathlib.Core.List.{List, [], _∷_, _++_}
-use lib.ListN.{getD, drop}
+use lib.ListN.{length, getD, drop}
 use lib.Dec.{eqb}
+use Rattle.answer.specs.declared.Answer.{Answer}
+use Rattle.answer.specs.declared.Answer.the-variants.{Done, Refused}
 use Rattle.netlist.specs.Net.{Net, depths, maxOf}
 use Rattle.netlist.specs.Words.{inputsOf, gatesOf, gatePlace, netOf}
+use Rattle.meter.specs.declared.Level.{Level}
 
 abbrev pub one : Bool → ℕ
 one true = 1
@@ -29,18 +32,31 @@ unfoldable pub hits : List ℕ → List ℕ → ℕ → ℕ → ℕ → ℕ
 hits net ds k l zero = 0
 hits net ds k l (suc g) = hits net ds k l g + one (eqb (getD net (gatePlace g) 0) k && eqb (getD ds (inputsOf net + g) 0) l)
 
--- those numbers for the depths 0 .. n - 1
-unfoldable pub hitsBelow : List ℕ → List ℕ → ℕ → ℕ → ℕ → List ℕ
-hitsBelow net ds k g zero = []
-hitsBelow net ds k g (suc n) = hitsBelow net ds k g n ++ hits net ds k n g ∷ []
+-- record l: the AND gates and the MUX gates of depth l, of the first g gates
+unfoldable pub levelAt : List ℕ → List ℕ → ℕ → ℕ → Level
+levelAt net ds g l = record { ands = hits net ds andKind l g; muxes = hits net ds muxKind l g }
+
+-- the records 0 .. n - 1
+unfoldable pub levelsBelow : List ℕ → List ℕ → ℕ → ℕ → List Level
+levelsBelow net ds g zero = []
+levelsBelow net ds g (suc n) = levelsBelow net ds g n ++ levelAt net ds g n ∷ []
 
 -- one more than the largest depth of any gate
 abbrev pub levelCount : Net → ℕ
 levelCount n = suc (maxOf (drop (n .inputs) (depths n)))
 
--- one half of the level records: the counts of the gates of kind code k
-unfoldable pub levels : List ℕ → ℕ → List ℕ
-levels net k = hitsBelow net (depths (netOf net)) k (gatesOf net) (levelCount (netOf net))
+-- the level records
+unfoldable pub levels : List ℕ → List Level
+levels net = levelsBelow net (depths (netOf net)) (gatesOf net) (levelCount (netOf net))
+
+-- a front of records written over a list, the rest kept
+unfoldable pub overLevels : List Level → List Level → List Level
+overLevels front old = front ++ drop (length front) old
+
+-- document 01: success writes the needed front and keeps the rest, a refusal changes nothing
+unfoldable pub leftLevels : Answer → List Level → List Level → List Level
+leftLevels Done front old = overLevels front old
+leftLevels (Refused number list place) front old = old
 
 -- the sum of a list
 unfoldable pub total : List ℕ → ℕ

@@ -1,6 +1,6 @@
 // The meter: document 01, "Netlists". The depth of every wire, the AND and the MUX gates counted by depth,
 // the netlist's depth and its multiplications. Judged 9, 8; the lists are the netlist, the depths and the
-// levels, which are two lists of words: the ANDs and the MUXes.
+// levels.
 use answer::Answer;
 use netlist::GATE_STRIDE;
 use netlist::HEADER_WORDS;
@@ -10,17 +10,23 @@ ghost use mathlib.Core.Path.{_≡_};
 ghost use mathlib.Core.List.{map};
 ghost use Prim.Native.Nat.{ℕ, _+_, _/_, _≤_, _<_, max};
 ghost use lib.ListN.{length, getD, take, drop, replicate};
-ghost use lib.Dec.{ltb, eqb};
-ghost use Rattle.answer.specs.Answers.{_▹_, refuse};
+ghost use lib.Dec.{eqb};
 ghost use Rattle.answer.specs.Choose.{choose};
 ghost use Rattle.answer.specs.Fronts.{over};
 ghost use Rattle.netlist.specs.Net.{at, depAlg, maxOf};
-ghost use Rattle.netlist.specs.Words.{inputsOf, gatesOf, netOf};
+ghost use Rattle.netlist.specs.Words.{inputsOf, gatePlace};
 ghost use Rattle.netlist.specs.Check.{gateLimit};
-ghost use Rattle.meter.specs.Levels.{one, andKind, muxKind, levelCount};
+ghost use Rattle.meter.specs.Levels.{one, andKind, muxKind, kindCount, levelsBelow, overLevels};
 ghost use Rattle.meter.specs.Meter.{depthsAnswer, MeteredAs};
 ghost use Rattle.meter.specs.Passes.{deepest, depthsTo, Lent, MeasuredAs};
-ghost use Rattle.meter.specs.Counted.{levelsTo, Counts, CountedAs};
+ghost use Rattle.meter.specs.Counted.{noPlan, PlannedAs, spotOf, noGates, bump, tallied, Countable, Tallies};
+
+// A level record: the AND gates and the MUX gates of one depth.
+#[repr(C)]
+pub struct Level {
+    pub ands: u32,
+    pub muxes: u32,
+}
 
 // The answer, with the netlist's depth and its multiplications, both 0 on a refusal.
 pub struct Metered {
@@ -34,6 +40,19 @@ struct Measured {
     answer: Answer,
     depth: u32,
     levels: usize,
+}
+
+// What a call returns, and what it has still to count: how many gates in how many levels, none on a refusal.
+struct Plan {
+    metered: Metered,
+    gates: usize,
+    levels: usize,
+}
+
+// Where a gate is counted, and as what.
+struct Spot {
+    at: usize,
+    kind: u32,
 }
 
 fn larger(a: u32, b: u32) -> u32
@@ -177,103 +196,136 @@ fn measure(net: &[u32], depths: &mut [u32]) -> Measured
     }
 }
 
-// 8 on the level list: the first of its two lists that is too short.
-fn level_room(levels: usize, and_room: usize, mux_room: usize) -> Answer
-    ensures { λ r. ⌜ r ≡ refuse 8 3 «and_room» (ltb «and_room» levels) ▹ refuse 8 3 «mux_room» (ltb «mux_room» levels) ⌝ }
-{
-    if and_room < levels {
-        return Answer::Refused {
-            number: answer::ROOM,
-            list: 3,
-            place: and_room,
-        };
-    }
-    if mux_room < levels {
-        return Answer::Refused {
-            number: answer::ROOM,
-            list: 3,
-            place: mux_room,
-        };
-    }
-    Answer::Done
-}
-
 fn one_if(a: u32, b: u32) -> u32
     ensures { λ r. ⌜ r ≡ one (eqb a b) ⌝ }
 {
     if a == b { 1 } else { 0 }
 }
 
-// Counts the AND and the MUX gates by depth, in one pass over levels that stand at 0, and all of them.
-fn tally(
-    net: &[u32],
-    depths: &[u32],
-    ands: &mut [u32],
-    muxes: &mut [u32],
-    inputs: usize,
-    gates: usize,
-) -> u32
-    requires { ⌜ (Counts (now net) inputs gates (now depths) (now ands) (now muxes)) × (now ands ≡ over (levelsTo (now net) andKind 0) (now ands)) × (now muxes ≡ over (levelsTo (now net) muxKind 0) (now muxes)) ⌝ }
-    ensures { λ r. ⌜ CountedAs (now (net .entry)) (now (ands .entry)) (now (muxes .entry)) r (now (ands .exit)) (now (muxes .exit)) ⌝ }
+// How many gates are ANDs or MUXes.
+fn multiplications(net: &[u32], gates: usize) -> u32
+    requires { ⌜ (gatePlace gates ≤ length (now net)) × (gates ≤ gateLimit) ⌝ }
+    ensures { λ r. ⌜ r ≡ kindCount (now (net .entry)) andKind gates + kindCount (now (net .entry)) muxKind gates ⌝ }
 {
     let mut n: u32 = 0;
     let mut g: usize = 0;
     while g < gates {
         let kind = net[HEADER_WORDS + GATE_STRIDE * g];
-        let level = depths[inputs + g] as usize;
         let a = one_if(kind, AND_KIND);
         let m = one_if(kind, MUX_KIND);
-        ands[level] = ands[level] + a;
-        muxes[level] = muxes[level] + m;
         n = n + a + m;
         g += 1;
     }
     n
 }
 
-// The level records, cleared and counted, and how many gates they count.
-fn put_levels(
-    net: &[u32],
-    depths: &[u32],
-    ands: &mut [u32],
-    muxes: &mut [u32],
-    levels: usize,
-) -> u32
-    requires { ⌜ (Counts (now net) (inputsOf (now net)) (gatesOf (now net)) (now depths) (now ands) (now muxes)) × (levels ≡ levelCount (netOf (now net))) ⌝ }
-    ensures { λ r. ⌜ CountedAs (now (net .entry)) (now (ands .entry)) (now (muxes .entry)) r (now (ands .exit)) (now (muxes .exit)) ⌝ }
+// A refusal, after which there is nothing to count.
+fn refused(answer: Answer) -> Plan
+    ensures { λ r. ⌜ r ≡ noPlan answer ⌝ }
 {
-    clear(ands, levels);
-    clear(muxes, levels);
-    let i = net[0] as usize;
-    let g = net[1] as usize;
-    tally(net, depths, ands, muxes, i, g)
+    let metered = Metered {
+        answer,
+        depth: 0,
+        multiplications: 0,
+    };
+    Plan {
+        metered,
+        gates: 0,
+        levels: 0,
+    }
 }
 
-pub fn meter(net: &[u32], depths: &mut [u32], ands: &mut [u32], muxes: &mut [u32]) -> Metered
-    ensures { λ r. ⌜ MeteredAs (now (net .entry)) (now (depths .entry)) (now (ands .entry)) (now (muxes .entry)) r (now (depths .exit)) (now (ands .exit)) (now (muxes .exit)) ⌝ }
+// Judges all, fills the depths, and says what is left to count in a level list of room records.
+fn prepare(net: &[u32], depths: &mut [u32], room: usize) -> Plan
+    ensures { λ r. ⌜ PlannedAs (now (net .entry)) (now (depths .entry)) room r (now (depths .exit)) ⌝ }
 {
     let p = measure(net, depths);
     let r = p.answer;
     let Answer::Done = r else {
-        return Metered {
-            answer: r,
-            depth: 0,
-            multiplications: 0,
-        };
+        return refused(r);
     };
     let levels = p.levels;
-    let room = level_room(levels, ands.len(), muxes.len());
-    let Answer::Done = room else {
-        return Metered {
-            answer: room,
-            depth: 0,
-            multiplications: 0,
+    if room < levels {
+        let short = Answer::Refused {
+            number: answer::ROOM,
+            list: 3,
+            place: room,
         };
-    };
-    let n = put_levels(net, depths, ands, muxes, levels);
-    Metered {
+        return refused(short);
+    }
+    let gates = net[1] as usize;
+    let metered = Metered {
         answer: Answer::Done,
         depth: p.depth,
-        multiplications: n,
+        multiplications: multiplications(net, gates),
+    };
+    Plan {
+        metered,
+        gates,
+        levels,
     }
+}
+
+// The kind of gate g, and its depth: where it is counted.
+fn spot_of(net: &[u32], depths: &[u32], g: usize) -> Spot
+    requires { ⌜ (gatePlace g < length (now net)) × (inputsOf (now net) + g < length (now depths)) ⌝ }
+    ensures { λ r. ⌜ r ≡ spotOf (now (net .entry)) (now (depths .entry)) g ⌝ }
+{
+    let inputs = net[0] as usize;
+    let at = depths[inputs + g] as usize;
+    let kind = net[HEADER_WORDS + GATE_STRIDE * g];
+    Spot { at, kind }
+}
+
+// A record with a gate of the given kind more.
+fn bumped(level: Level, kind: u32) -> Level
+    requires { ⌜ (level .ands ≤ gateLimit) × (level .muxes ≤ gateLimit) ⌝ }
+    ensures { λ r. ⌜ r ≡ bump level kind ⌝ }
+{
+    let ands = level.ands + one_if(kind, AND_KIND);
+    let muxes = level.muxes + one_if(kind, MUX_KIND);
+    Level { ands, muxes }
+}
+
+// The first count records without gates.
+fn clear_levels(levels: &mut [Level], count: usize)
+    requires { ⌜ count ≤ length (now levels) ⌝ }
+    ensures { λ _. ⌜ now (levels .exit) ≡ overLevels (replicate count noGates) (now (levels .entry)) ⌝ }
+{
+    let mut l: usize = 0;
+    while l < count {
+        levels[l] = Level { ands: 0, muxes: 0 };
+        l += 1;
+    }
+}
+
+// Counts the gates by depth, in one pass over levels that stand at 0.
+fn tally(net: &[u32], depths: &[u32], levels: &mut [Level], gates: usize)
+    requires { ⌜ Tallies (now net) (now depths) gates (now levels) ⌝ }
+    ensures { λ _. ⌜ now (levels .exit) ≡ tallied (now (net .entry)) (now (depths .entry)) gates (now (levels .entry)) ⌝ }
+{
+    let mut g: usize = 0;
+    while g < gates {
+        let s = spot_of(net, depths, g);
+        let at = s.at;
+        levels[at] = bumped(levels[at], s.kind);
+        g += 1;
+    }
+}
+
+// The level records, cleared and counted.
+fn put_levels(net: &[u32], depths: &[u32], levels: &mut [Level], gates: usize, count: usize)
+    requires { ⌜ (Countable (now net) (now depths) gates count) × (count ≤ length (now levels)) ⌝ }
+    ensures { λ _. ⌜ now (levels .exit) ≡ overLevels (levelsBelow (now (net .entry)) (now (depths .entry)) gates count) (now (levels .entry)) ⌝ }
+{
+    clear_levels(levels, count);
+    tally(net, depths, levels, gates);
+}
+
+pub fn meter(net: &[u32], depths: &mut [u32], levels: &mut [Level]) -> Metered
+    ensures { λ r. ⌜ MeteredAs (now (net .entry)) (now (depths .entry)) (now (levels .entry)) r (now (depths .exit)) (now (levels .exit)) ⌝ }
+{
+    let p = prepare(net, depths, levels.len());
+    put_levels(net, depths, levels, p.gates, p.levels);
+    p.metered
 }

@@ -5,6 +5,7 @@ use mathlib.Core.List.{List}
 use Rattle.answer.specs.declared.Answer.{Answer}
 use Rattle.answer.specs.Answers.{numberOf, listOf, placeOf}
 use Rattle.evaluate.specs.Evaluate.{Evaluated}
+use Rattle.meter.specs.declared.Level.{Level}
 use Rattle.meter.specs.declared.Metered.{Metered}
 use Rattle.meter.specs.Meter.{MeteredAs}
 use Rattle.glue.specs.Glue.{GluedAs}
@@ -35,9 +36,9 @@ meteringOf m = record {
   multiplications = m .multiplications;
 }
 
-pub record MeterReply (net ds ands muxes : List ℕ) (r : Metering) (ds′ ands′ muxes′ : List ℕ) : Type 0 where
+pub record MeterReply (net ds : List ℕ) (ls : List Level) (r : Metering) (ds′ : List ℕ) (ls′ : List Level) : Type 0 where
   pub metered : Metered
-  pub outcome : MeteredAs net ds ands muxes metered ds′ ands′ muxes′
+  pub outcome : MeteredAs net ds ls metered ds′ ls′
   pub told : r ≡ meteringOf metered
 
 pub record GlueReply (a b out : List ℕ) (r : Reply) (out′ : List ℕ) : Type 0 where

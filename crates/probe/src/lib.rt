@@ -1,6 +1,8 @@
 // The public calls, exported for the tests alone. Lists pass as a pointer and a length, an answer as its
 // number, list and place: 0, 0, 0 for done.
 use answer::Answer;
+use meter::Level;
+use meter::Metered;
 ghost use mathlib.Core.Path.{_≡_};
 ghost use lib.ListN.{length};
 ghost use Rattle.netlist.specs.Check.{netAnswer};
@@ -9,7 +11,7 @@ ghost use Rattle.emit.specs.Emit.{oneHotAnswer, thresholdAnswer, decipherNet, d
 ghost use Rattle.file.specs.File.{checkAnswer};
 ghost use Rattle.file.specs.declared.form.Form.the-variants.{Full};
 ghost use Rattle.text.specs.Text.{Printed};
-ghost use Rattle.probe.specs.Replies.{replyOf, EvaluateReply, MeterReply, GlueReply, ChooseReply, KeystreamReply, CipherReply, EmitReply, ScoreReply, ReadReply, WriteReply};
+ghost use Rattle.probe.specs.Replies.{replyOf, meteringOf, EvaluateReply, MeterReply, GlueReply, ChooseReply, KeystreamReply, CipherReply, EmitReply, ScoreReply, ReadReply, WriteReply};
 
 #[repr(C)]
 pub struct Reply {
@@ -67,25 +69,26 @@ pub extern "C" fn probe_evaluate(
     told(evaluate::evaluate(net, inputs, values, outputs))
 }
 
-#[no_mangle]
-pub extern "C" fn probe_meter(
-    net: &[u32],
-    depths: &mut [u32],
-    ands: &mut [u32],
-    muxes: &mut [u32],
-) -> Metering
-    ensures { λ r. ⌜ MeterReply (now (net .entry)) (now (depths .entry)) (now (ands .entry)) (now (muxes .entry)) r (now (depths .exit)) (now (ands .exit)) (now (muxes .exit)) ⌝ }
+fn metering_of(metered: Metered) -> Metering
+    ensures { λ r. ⌜ r ≡ meteringOf metered ⌝ }
 {
-    let m = meter::meter(net, depths, ands, muxes);
-    let answer = m.answer;
+    let answer = metered.answer;
     let r = told(answer);
     Metering {
         number: r.number,
         list: r.list,
         place: r.place,
-        depth: m.depth,
-        multiplications: m.multiplications,
+        depth: metered.depth,
+        multiplications: metered.multiplications,
     }
+}
+
+#[no_mangle]
+pub extern "C" fn probe_meter(net: &[u32], depths: &mut [u32], levels: &mut [Level]) -> Metering
+    ensures { λ r. ⌜ MeterReply (now (net .entry)) (now (depths .entry)) (now (levels .entry)) r (now (depths .exit)) (now (levels .exit)) ⌝ }
+{
+    let m = meter::meter(net, depths, levels);
+    metering_of(m)
 }
 
 #[no_mangle]
