@@ -2,3 +2,4 @@ pub mod Decides
 pub mod Metering
 pub mod Ciphering
 pub mod Scoring
+pub mod Edges
