@@ -1,8 +1,8 @@
--- Document 01's printed netlist, threshold 2 of 3, the smallest others, and its edges.
+-- Document 01's printed netlist, threshold 2 of 3, and the smallest others.
 use mathlib.Core.Path.{_≡_, refl}
 use mathlib.Core.List.{[], _∷_}
 use Rattle.netlist.specs.declared.gate.Gate.the-variants.{Zero, One, Not, Xor, And, Mux}
-use Rattle.netlist.specs.Net.{Net, eval}
+use Rattle.netlist.specs.Net.{Net}
 use Rattle.netlist.specs.Part.{Part}
 use Rattle.cells.specs.Cells.{cellGates, rowGates, sumGates, levelGates, levelAfter, firstGates, firstLevel, levelsGates, levelsEnd, allGates, lastLevel, oneHotNet, thresholdPart, thresholdNet}
 
@@ -29,25 +29,3 @@ one-hot-of-one = refl
 pub one-hot-of-none : oneHotNet 0 ≡ record { inputs = 0; gates = One ∷ []; outs = 0 ∷ [] }
 unfolding oneHotNet
 one-hot-of-none = refl
-
--- "Edges, P"
-pub record Edges : Type 0 where
-  pub two-of-three-met : eval (thresholdNet 2 3) (0 ∷ 1 ∷ 1 ∷ []) ≡ 1 ∷ []
-  pub two-of-three-missed : eval (thresholdNet 2 3) (1 ∷ 0 ∷ 0 ∷ []) ≡ 0 ∷ []
-  pub three-of-three : eval (thresholdNet 3 3) (1 ∷ 1 ∷ 1 ∷ []) ≡ 1 ∷ []
-  pub one-of-one : eval (thresholdNet 1 1) (1 ∷ []) ≡ 1 ∷ []
-  pub four-of-three : eval (thresholdNet 4 3) (1 ∷ 1 ∷ 1 ∷ []) ≡ 0 ∷ []
-  pub one-hot : eval (oneHotNet 2) (1 ∷ 0 ∷ []) ≡ 0 ∷ 1 ∷ 0 ∷ []
-  pub one-hot-none : eval (oneHotNet 0) [] ≡ 1 ∷ []
-
-pub edges : Edges
-unfolding cellGates rowGates sumGates levelGates levelAfter firstGates firstLevel levelsGates levelsEnd allGates lastLevel thresholdPart thresholdNet oneHotNet
-edges = record {
-  two-of-three-met = refl;
-  two-of-three-missed = refl;
-  three-of-three = refl;
-  one-of-one = refl;
-  four-of-three = refl;
-  one-hot = refl;
-  one-hot-none = refl;
-}

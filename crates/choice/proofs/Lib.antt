@@ -1,4 +1,3 @@
 pub mod Swaps
 pub mod Accepted
 pub mod Distinct
-pub mod Edge
