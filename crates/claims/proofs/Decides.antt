@@ -88,7 +88,7 @@ cipher-decides inst m key rec idx wh out x y =
     (e, same-left _ _ e (x .written) (y .written))
 
 -- the three calls of emission
-emitted-decides : {due : Answer} {net : Net} (out : List ℕ) {r s : Answer} {v w : List ℕ} → Emitted due net out r v → Emitted due net out s w → (r ≡ s) × (v ≡ w)
+pub emitted-decides : {due : Answer} {net : Net} (out : List ℕ) {r s : Answer} {v w : List ℕ} → Emitted due net out r v → Emitted due net out s w → (r ≡ s) × (v ≡ w)
 emitted-decides out x y =
     let e = x .answered ∙ sym (y .answered) in
     (e, same-left _ _ e (x .written) (y .written))

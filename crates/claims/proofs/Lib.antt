@@ -3,3 +3,4 @@ pub mod Metering
 pub mod Ciphering
 pub mod Scoring
 pub mod Edges
+pub mod Replies
