@@ -8,7 +8,7 @@ ghost use Rattle.instance.specs.Table.{rowBits};
 ghost use Rattle.filter.specs.Instances.{filterOf};
 ghost use Rattle.cipher.specs.Rows.{streamBit, Rows};
 
-// Variable j of a row is the low bit of key[row[j]] + w[j].
+// A byte whose low bit is variable j of a row, key[row[j]] + w[j].
 fn variable(key: &[u8], row: &[u32], w: &[u8], j: usize) -> u8
     requires { ⌜ (j < length (now row)) × (j < length (now w)) × (getD (now row) j 0 < length (now key)) ⌝ }
     ensures { λ r. ⌜ r % 2 ≡ var (now (key .entry)) (now (row .entry)) (now (w .entry)) j ⌝ }
@@ -17,7 +17,7 @@ fn variable(key: &[u8], row: &[u32], w: &[u8], j: usize) -> u8
     key[p] ^ w[j]
 }
 
-// Eight variables, from variable i on.
+// Eight such bytes, from variable i on.
 fn eight_variables(key: &[u8], row: &[u32], w: &[u8], i: usize) -> [u8; 8]
     requires { ⌜ (i + 8 ≤ length (now row)) × (i + 8 ≤ length (now w)) × ((j : ℕ) → j < i + 8 → getD (now row) j 0 < length (now key)) ⌝ }
     ensures { λ r. ⌜ ((t : ℕ) → t < 8 → getD r t 0 % 2 ≡ var (now (key .entry)) (now (row .entry)) (now (w .entry)) (i + t)) ⌝ }
@@ -31,7 +31,8 @@ fn eight_variables(key: &[u8], row: &[u32], w: &[u8], i: usize) -> [u8; 8]
     some
 }
 
-// Writes their low bits to their places, from place i on.
+// Writes their low bits to places i to i + 7. A plain copy of eight bytes would go through memory and be
+// slower, so the low bits are taken here.
 fn put_eight_variables(some: [u8; 8], i: usize, x: &mut [u8])
     requires { ⌜ i + 8 ≤ length (now x) ⌝ }
     ensures { λ r. ⌜ take (i + 8) (now (x .exit)) ≡ take i (now (x .entry)) ++ tab (λ t. getD some t 0 % 2) 8 ⌝ }
@@ -44,7 +45,7 @@ fn put_eight_variables(some: [u8; 8], i: usize, x: &mut [u8])
     }
 }
 
-// The variables from variable i on, after those before it.
+// The variables from variable i on, behind those that are written.
 fn put_variables_from(key: &[u8], row: &[u32], w: &[u8], i: usize, x: &mut [u8])
     requires { ⌜ (i ≤ length (now x)) × (take i (now x) ≡ tab (var (now key) (now row) (now w)) i) × (length (now x) ≤ length (now row)) × (length (now x) ≤ length (now w)) × ((j : ℕ) → j < length (now x) → getD (now row) j 0 < length (now key)) ⌝ }
     ensures { λ r. ⌜ now (x .exit) ≡ tab (var (now (key .entry)) (now (row .entry)) (now (w .entry))) (length (now (x .entry))) ⌝ }

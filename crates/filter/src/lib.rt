@@ -1252,8 +1252,8 @@ pub fn sum_monomials(degrees: &[u8], x: &[u8]) -> u8
     sum
 }
 
-// The filters themselves, where all variables are there. Degrees and numbers of monomials are constants at
-// each call, so that the compiler lays the loops out, and no monomial's length is a jump that is guessed wrong.
+// From here to `filip_144`: the same sums where all variables are there. Degrees and numbers of monomials
+// are constants at each call, so that the compiler lays out the loops of a monomial.
 
 // The sum of some monomials of one degree.
 fn sum_equal(degree: usize, many: usize, x: &[u8]) -> u8
