@@ -1,18 +1,51 @@
 -- Laws of rows and their variables.
 use Prim.Native.Nat.{ℕ, _+_, _*_, _%_, _<_, _≤_}
-use mathlib.Core.Path.{_≡_, ap, _∙_}
-use mathlib.Core.List.{List}
+use mathlib.Core.Path.{_≡_, ap, ap₂, sym, _∙_}
+use mathlib.Core.List.{List, [], _∷_, _++_, append-assoc, append-nil}
+use mathlib.Core.Logic.{⊎-elim}
 use native.Mathlib.Omega.{arith}
-use native.Mathlib.Nat.{add-mul, one-mul, mul-le-mul-right}
-use lib.ListN.{getD, drop}
+use native.Mathlib.Nat.{add-mul, one-mul, mul-le-mul-right, eq-or-lt-of-le}
+use native.Mathlib.Numerals.{add-one}
+use lib.Bits.{bitXor, xor-add-and}
+use lib.ListN.{length, getD, set, take, drop}
+use lib.Seq.{getD-set-same, getD-set-other, take-suc-set}
 use Rattle.instance.specs.Table.{rowBits}
 use Rattle.filter.specs.Filter.{var, tab}
 use Rattle.filter.specs.Instances.{filterOf, rowBit}
+use Rattle.filter.proofs.Tab.{tab-same, tab-add}
 use Rattle.cipher.specs.Rows.{streamBit}
 
-pub variable : (key row w : List ℕ) (j : ℕ) → (getD key (getD row j 0) 0 % 2 + getD w j 0 % 2) % 2 ≡ var key row w j
+-- the low bit of the code's word is the variable
+pub low-bit : (key row w : List ℕ) (j : ℕ) → bitXor (getD key (getD row j 0) 0) (getD w j 0) % 2 ≡ var key row w j
 unfolding var
-variable key row w j = omega arith
+low-bit key row w j = omega (arith, xor-add-and (getD key (getD row j 0) 0) (getD w j 0))
+
+-- one more place whose low bit is f's value
+pub filled-more : (f : ℕ → ℕ) (l : List ℕ) (t v : ℕ) → t < length l → v % 2 ≡ f t → ((s : ℕ) → s < t → getD l s 0 % 2 ≡ f s)
+    → (s : ℕ) → s < t + 1 → getD (set l t v) s 0 % 2 ≡ f s
+filled-more f l t v h e g s k =
+    ⊎-elim
+    (λ (q : s ≡ t). ap (λ (n : ℕ). getD (set l t v) n 0 % 2) q ∙ ap (λ (y : ℕ). y % 2) (getD-set-same l t v 0 h) ∙ e ∙ ap f (sym q))
+    (λ (q : s < t). ap (λ (y : ℕ). y % 2) (getD-set-other l t s v 0 (λ (z : s ≡ t). omega arith)) ∙ g s q)
+    (eq-or-lt-of-le {n = s} {m = t} (omega arith))
+
+-- no value of a table yet, and one more, written behind a front
+pub written-none : (f : ℕ → ℕ) (x : List ℕ) (i : ℕ) → take (i + 0) x ≡ take i x ++ tab f 0
+unfolding tab
+written-none f x i = let e : i + 0 ≡ i = omega arith in ap (λ (n : ℕ). take n x) e ∙ sym (append-nil (take i x))
+
+pub written-more : (f : ℕ → ℕ) (front x : List ℕ) (n t v : ℕ) → n < length x → v ≡ f t → take n x ≡ front ++ tab f t
+    → take (n + 1) (set x n v) ≡ front ++ tab f (t + 1)
+unfolding tab
+written-more f front x n t v h e w =
+    rw (add-one n, add-one t)
+    (take-suc-set x n v h ∙ ap₂ (λ (l : List ℕ) (y : ℕ). l ++ y ∷ []) w e ∙ append-assoc front (tab f t) (f t ∷ []))
+
+-- eight more values of a table: the low bits of eight words
+pub eight-more : (f : ℕ → ℕ) (some x y : List ℕ) (i : ℕ) → ((t : ℕ) → t < 8 → getD some t 0 % 2 ≡ f (i + t)) → take i x ≡ tab f i
+    → take (i + 8) y ≡ take i x ++ tab (λ t. getD some t 0 % 2) 8 → take (i + 8) y ≡ tab f (i + 8)
+eight-more f some x y i g v w =
+    w ∙ ap₂ (λ (a b : List ℕ). a ++ b) v (tab-same (λ t. getD some t 0 % 2) (λ t. f (i + t)) 8 g) ∙ sym (tab-add f i 8)
 
 -- row i of m rows of n is there
 pub row-in : (i m n : ℕ) → i < m → i * n + n ≤ m * n

@@ -1,23 +1,75 @@
 // Instances 1 to 5: a filter over the variables of each row.
 ghost use mathlib.Core.Path.{_≡_};
-ghost use Prim.Native.Nat.{ℕ, _*_, _<_, _≤_};
-ghost use lib.ListN.{length, getD};
+ghost use mathlib.Core.List.{_++_};
+ghost use Prim.Native.Nat.{ℕ, _+_, _*_, _%_, _<_, _≤_};
+ghost use lib.ListN.{length, getD, take};
 ghost use Rattle.filter.specs.Filter.{var, tab};
 ghost use Rattle.instance.specs.Table.{rowBits};
 ghost use Rattle.filter.specs.Instances.{filterOf};
 ghost use Rattle.cipher.specs.Rows.{streamBit, Rows};
 
-// The variables of a row: variable j is key[row[j]] + w[j].
+// A byte whose low bit is variable j of a row, key[row[j]] + w[j].
+fn variable(key: &[u8], row: &[u32], w: &[u8], j: usize) -> u8
+    requires { ⌜ (j < length (now row)) × (j < length (now w)) × (getD (now row) j 0 < length (now key)) ⌝ }
+    ensures { λ r. ⌜ r % 2 ≡ var (now (key .entry)) (now (row .entry)) (now (w .entry)) j ⌝ }
+{
+    let p = row[j] as usize;
+    key[p] ^ w[j]
+}
+
+// Eight such bytes, from variable i on.
+fn eight_variables(key: &[u8], row: &[u32], w: &[u8], i: usize) -> [u8; 8]
+    requires { ⌜ (i + 8 ≤ length (now row)) × (i + 8 ≤ length (now w)) × ((j : ℕ) → j < i + 8 → getD (now row) j 0 < length (now key)) ⌝ }
+    ensures { λ r. ⌜ ((t : ℕ) → t < 8 → getD r t 0 % 2 ≡ var (now (key .entry)) (now (row .entry)) (now (w .entry)) (i + t)) ⌝ }
+{
+    let mut some = [0u8; 8];
+    let mut t: usize = 0;
+    while t < 8 {
+        some[t] = variable(key, row, w, i + t);
+        t += 1;
+    }
+    some
+}
+
+// Writes their low bits to places i to i + 7. A plain copy of eight bytes would go through memory and be
+// slower, so the low bits are taken here.
+fn put_eight_variables(some: [u8; 8], i: usize, x: &mut [u8])
+    requires { ⌜ i + 8 ≤ length (now x) ⌝ }
+    ensures { λ r. ⌜ take (i + 8) (now (x .exit)) ≡ take i (now (x .entry)) ++ tab (λ t. getD some t 0 % 2) 8 ⌝ }
+{
+    let mut t: usize = 0;
+    while t < 8 {
+        let j = i + t;
+        x[j] = some[t] % 2;
+        t += 1;
+    }
+}
+
+// The variables from variable i on, behind those that are written.
+fn put_variables_from(key: &[u8], row: &[u32], w: &[u8], i: usize, x: &mut [u8])
+    requires { ⌜ (i ≤ length (now x)) × (take i (now x) ≡ tab (var (now key) (now row) (now w)) i) × (length (now x) ≤ length (now row)) × (length (now x) ≤ length (now w)) × ((j : ℕ) → j < length (now x) → getD (now row) j 0 < length (now key)) ⌝ }
+    ensures { λ r. ⌜ now (x .exit) ≡ tab (var (now (key .entry)) (now (row .entry)) (now (w .entry))) (length (now (x .entry))) ⌝ }
+{
+    let mut j: usize = i;
+    while j < x.len() {
+        x[j] = variable(key, row, w, j) % 2;
+        j += 1;
+    }
+}
+
+// The variables of a row. Eight are read before any is written: the compiler need not ask whether x is
+// a part of what it reads.
 fn put_variables(key: &[u8], row: &[u32], w: &[u8], x: &mut [u8])
     requires { ⌜ (length (now x) ≤ length (now row)) × (length (now x) ≤ length (now w)) × ((j : ℕ) → j < length (now x) → getD (now row) j 0 < length (now key)) ⌝ }
     ensures { λ r. ⌜ now (x .exit) ≡ tab (var (now (key .entry)) (now (row .entry)) (now (w .entry))) (length (now (x .entry))) ⌝ }
 {
-    let mut j: usize = 0;
-    while j < x.len() {
-        let p = row[j] as usize;
-        x[j] = (key[p] % 2 + w[j] % 2) % 2;
-        j += 1;
+    let mut i: usize = 0;
+    while x.len() - i >= 8 {
+        let some = eight_variables(key, row, w, i);
+        put_eight_variables(some, i, x);
+        i += 8;
     }
+    put_variables_from(key, row, w, i, x);
 }
 
 // A keystream bit: the filter over the variables, for which x has just room.

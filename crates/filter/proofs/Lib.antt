@@ -1,3 +1,4 @@
 pub mod Sums
 pub mod Tab
 pub mod Published
+pub mod Parts

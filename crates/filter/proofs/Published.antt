@@ -79,7 +79,7 @@ module _ (x : ℕ → ℕ) where
 replicate-snoc : (m d : ℕ) → replicate (suc m) d ≡ replicate m d ++ d ∷ []
 replicate-snoc m d = ap (λ (k : ℕ). replicate k d) (sym (add-one m)) ∙ sym (replicate-append-replicate m 1 d)
 
-total-replicate : (m d : ℕ) → total (replicate m d) ≡ d * m
+pub total-replicate : (m d : ℕ) → total (replicate m d) ≡ d * m
 unfolding total
 total-replicate zero d = omega arith
 total-replicate (suc m) d = omega (arith, total-replicate m d, mul-suc d m)
@@ -102,7 +102,7 @@ total-upTo (suc k) =
     ∙ suc-mul (k + 1) (suc k)
     ∙ omega (arith, total-upTo k, mul-suc (k + 1) k, total-append (upTo k) (suc k ∷ []))
 
-triangle-total : (k : ℕ) → total (upTo k) ≡ triangleSize k
+pub triangle-total : (k : ℕ) → total (upTo k) ≡ triangleSize k
 triangle-total k = omega (arith, total-upTo k)
 
 pub triangle-more : (k : ℕ) → triangleSize (suc k) ≡ triangleSize k + suc k

@@ -6,6 +6,7 @@ use native.Mathlib.Omega.{arith}
 use native.Mathlib.Nat.{add-sub-cancel-left, add-mul, mul-assoc, one-mul, zero-mul, add-mul-mod-self-left, mod-add-mod, add-mod-mod}
 use native.Mathlib.Numerals.{add-one}
 use native.Mathlib.Decide.{decLe}
+use lib.Bits.{bitAnd, bitXor, and-zero-l, and-comm, and-mask, xor-add-and, xor-lt}
 use lib.ListN.{length, getD, take, drop, length-drop, drop-of-length-le}
 use lib.Seq.{drop-cons, drop-drop, take-all}
 use borrow.Author.Tests.{le-leb, lt-leb}
@@ -17,6 +18,14 @@ pub bit-times : (p q : ℕ) → p ≤ 1 → q ≤ 1 → p * q ≤ 1
 bit-times zero q h k = rw (zero-mul q) (omega arith)
 bit-times (suc zero) q h k = rw (one-mul q) k
 bit-times (suc (suc p)) q h k = absurd (omega arith)
+
+pub and-bit : (p x : ℕ) → p ≤ 1 → bitAnd p x ≡ p * (x % 2)
+and-bit zero x h = and-zero-l x ∙ sym (zero-mul (x % 2))
+and-bit (suc zero) x h = and-comm 1 x ∙ and-mask x 1 ∙ sym (one-mul (x % 2))
+and-bit (suc (suc p)) x h = absurd (omega arith)
+
+pub xor-bit : (a b : ℕ) → a < 2 → b < 2 → bitXor a b ≡ (a + b) % 2
+xor-bit a b h k = omega (arith, xor-add-and a b, xor-lt 1 a b h k)
 
 odd-times : (x r : ℕ) → (x % 2 * r) % 2 ≡ (x * r) % 2
 odd-times x r =

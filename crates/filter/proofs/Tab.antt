@@ -1,7 +1,7 @@
 -- Laws of tables of values, as the loops fill them.
 use Prim.Native.Nat.{ℕ, zero, suc, _+_, _<_, _≤_}
-use mathlib.Core.Path.{_≡_, refl, ap, sym, _∙_}
-use mathlib.Core.List.{List, [], _∷_, _++_, append-nil}
+use mathlib.Core.Path.{_≡_, refl, ap, ap₂, sym, _∙_}
+use mathlib.Core.List.{List, [], _∷_, _++_, append-assoc, append-nil}
 use native.Mathlib.Omega.{arith}
 use native.Mathlib.Numerals.{add-one}
 use mathlib.Core.Logic.{⊎-elim}
@@ -43,3 +43,18 @@ module _ (f : ℕ → ℕ) where
   unfolding over
   tab-whole old n e =
       ap (λ (t : List ℕ). tab f n ++ t) (drop-of-length-le old {i = length (tab f n)} (omega (arith, tab-length n))) ∙ append-nil (tab f n)
+
+-- Tables of the same values, and a table in two parts.
+pub tab-same : (f g : ℕ → ℕ) (n : ℕ) → ((t : ℕ) → t < n → f t ≡ g t) → tab f n ≡ tab g n
+unfolding tab
+tab-same f g zero h = refl
+tab-same f g (suc n) h = ap₂ (λ (l : List ℕ) (y : ℕ). l ++ y ∷ []) (tab-same f g n (λ t k. h t (omega arith))) (h n (omega arith))
+
+pub tab-add : (f : ℕ → ℕ) (m n : ℕ) → tab f (m + n) ≡ tab f m ++ tab (λ t. f (m + t)) n
+unfolding tab
+tab-add f m zero = let e : m + 0 ≡ m = omega arith in ap (tab f) e ∙ sym (append-nil (tab f m))
+tab-add f m (suc n) =
+    let e : m + suc n ≡ suc (m + n) = omega arith in
+    ap (tab f) e
+    ∙ ap (λ (l : List ℕ). l ++ f (m + n) ∷ []) (tab-add f m n)
+    ∙ append-assoc (tab f m) (tab (λ t. f (m + t)) n) (f (m + n) ∷ [])

@@ -1,10 +1,11 @@
 // The filters of instances 1 to 5: document 01, "Monomials"; papers 000 (FLIP) and 001 (FiLIP). A filter
 // takes the variables of a row, in order, each once. No branch and no index depends on a variable.
 ghost use mathlib.Core.Path.{_≡_};
-ghost use Prim.Native.Nat.{_%_, _≤_, min};
-ghost use lib.ListN.{take, drop};
+ghost use Prim.Native.Nat.{_*_, _%_, _≤_, min};
+ghost use lib.ListN.{length, take, drop, replicate};
 ghost use Rattle.filter.specs.Filter.{prod, sumOf, ones};
-ghost use Rattle.filter.specs.Instances.{degreesOf, tailOf, filterOf};
+ghost use Rattle.filter.specs.Papers.{triangleSize};
+ghost use Rattle.filter.specs.Instances.{upTo, copies, degreesOf, tailOf, filterOf};
 
 // The degrees of the monomials, in order: 42 linear, 64 pairs, 8 triangles of degree 9.
 pub const FLIP_530: [u8; 178] = [
@@ -1222,7 +1223,7 @@ fn product(x: &[u8]) -> u8
     let mut p: u8 = 1;
     let mut i: usize = 0;
     while i < x.len() {
-        p = p * (x[i] % 2);
+        p = p & x[i];
         i += 1;
     }
     p
@@ -1249,6 +1250,133 @@ pub fn sum_monomials(degrees: &[u8], x: &[u8]) -> u8
         j += 1;
     }
     sum
+}
+
+// From here to `filip_144`: the same sums where all variables are there. Degrees and numbers of monomials
+// are constants at each call, so that the compiler lays out the loops of a monomial.
+
+// The sum of some monomials of one degree.
+fn sum_equal(degree: usize, many: usize, x: &[u8]) -> u8
+    requires { ⌜ degree * many ≤ length (now x) ⌝ }
+    ensures { λ r. ⌜ r ≡ sumOf (replicate many degree) (now (x .entry)) ⌝ }
+{
+    let mut sum: u8 = 0;
+    let mut at: usize = 0;
+    let mut j: usize = 0;
+    while j < many {
+        let end = at + degree;
+        sum = sum ^ product(&x[at..end]);
+        at += degree;
+        j += 1;
+    }
+    sum
+}
+
+// The sum of monomials of degree 1, 2, .. k.
+fn triangle(k: usize, x: &[u8]) -> u8
+    requires { ⌜ triangleSize k ≤ length (now x) ⌝ }
+    ensures { λ r. ⌜ r ≡ sumOf (upTo k) (now (x .entry)) ⌝ }
+{
+    let mut sum: u8 = 0;
+    let mut at: usize = 0;
+    let mut j: usize = 0;
+    while j < k {
+        j += 1;
+        let end = at + j;
+        sum = sum ^ product(&x[at..end]);
+        at += j;
+    }
+    sum
+}
+
+// 8 triangles of degree 9, of 45 variables each.
+fn triangles_9(x: &[u8]) -> u8
+    requires { ⌜ 360 ≤ length (now x) ⌝ }
+    ensures { λ r. ⌜ r ≡ sumOf (copies 8 (upTo 9)) (now (x .entry)) ⌝ }
+{
+    let mut sum: u8 = 0;
+    let mut at: usize = 0;
+    let mut left: usize = 8;
+    while left > 0 {
+        sum = sum ^ triangle(9, &x[at..]);
+        at += 45;
+        left -= 1;
+    }
+    sum
+}
+
+// 8 triangles of degree 16, of 136 variables each.
+fn triangles_16(x: &[u8]) -> u8
+    requires { ⌜ 1088 ≤ length (now x) ⌝ }
+    ensures { λ r. ⌜ r ≡ sumOf (copies 8 (upTo 16)) (now (x .entry)) ⌝ }
+{
+    let mut sum: u8 = 0;
+    let mut at: usize = 0;
+    let mut left: usize = 8;
+    while left > 0 {
+        sum = sum ^ triangle(16, &x[at..]);
+        at += 136;
+        left -= 1;
+    }
+    sum
+}
+
+fn flip_530(x: &[u8]) -> u8
+    ensures { λ r. ⌜ r ≡ sumOf (degreesOf 1) (now (x .entry)) ⌝ }
+{
+    if x.len() < 530 {
+        return sum_monomials(&FLIP_530, x);
+    }
+    let linear = sum_equal(1, 42, x);
+    let pairs = sum_equal(2, 64, &x[42..]);
+    let triangles = triangles_9(&x[170..]);
+    linear ^ pairs ^ triangles
+}
+
+fn flip_1394(x: &[u8]) -> u8
+    ensures { λ r. ⌜ r ≡ sumOf (degreesOf 2) (now (x .entry)) ⌝ }
+{
+    if x.len() < 1394 {
+        return sum_monomials(&FLIP_1394, x);
+    }
+    let linear = sum_equal(1, 82, x);
+    let pairs = sum_equal(2, 112, &x[82..]);
+    let triangles = triangles_16(&x[306..]);
+    linear ^ pairs ^ triangles
+}
+
+fn filip_1216(x: &[u8]) -> u8
+    ensures { λ r. ⌜ r ≡ sumOf (degreesOf 3) (now (x .entry)) ⌝ }
+{
+    if x.len() < 1216 {
+        return sum_monomials(&FILIP_1216, x);
+    }
+    let ones = sum_equal(1, 128, x);
+    let twos = sum_equal(2, 64, &x[128..]);
+    let fours = sum_equal(4, 80, &x[256..]);
+    let eights = sum_equal(8, 80, &x[576..]);
+    ones ^ twos ^ fours ^ eights
+}
+
+fn filip_1280(x: &[u8]) -> u8
+    ensures { λ r. ⌜ r ≡ sumOf (degreesOf 4) (now (x .entry)) ⌝ }
+{
+    if x.len() < 1280 {
+        return sum_monomials(&FILIP_1280, x);
+    }
+    let ones = sum_equal(1, 128, x);
+    let twos = sum_equal(2, 64, &x[128..]);
+    let sixteens = sum_equal(16, 64, &x[256..]);
+    ones ^ twos ^ sixteens
+}
+
+fn filip_144(x: &[u8]) -> u8
+    ensures { λ r. ⌜ r ≡ sumOf (degreesOf 5) (now (x .entry)) ⌝ }
+{
+    if x.len() < 81 {
+        return sum_monomials(&FILIP_144, x);
+    }
+    sum_equal(1, 81, x)
 }
 
 // How many of the bits are 1.
@@ -1290,11 +1418,11 @@ fn monomials(instance: u32, x: &[u8]) -> u8
     ensures { λ r. ⌜ r ≡ sumOf (degreesOf instance) (now (x .entry)) ⌝ }
 {
     match instance {
-        1 => sum_monomials(&FLIP_530, x),
-        2 => sum_monomials(&FLIP_1394, x),
-        3 => sum_monomials(&FILIP_1216, x),
-        4 => sum_monomials(&FILIP_1280, x),
-        5 => sum_monomials(&FILIP_144, x),
+        1 => flip_530(x),
+        2 => flip_1394(x),
+        3 => filip_1216(x),
+        4 => filip_1280(x),
+        5 => filip_144(x),
         _ => 0,
     }
 }

@@ -3,7 +3,7 @@ use mathlib.Core.Path.{_≡_}
 use native.Mathlib.Omega.{arith}
 use lib.ListN.{length, drop, getD}
 use Rattle.filter.specs.Filter.{prod}
-use Rattle.filter.proofs.Sums.{bit-times, product-start, product-step, product-end}
+use Rattle.filter.proofs.Sums.{and-bit, bit-times, product-start, product-step, product-end}
 use borrow.Author.Needs.{needs}
 use Rattle.filter.proofs.product.Statement.{statement}
 use Rattle.filter.proofs.product.Tie as tie
@@ -20,9 +20,6 @@ loop-holds c = (search needs, search needs, product-start _)
 shared-slice-read-p : tie.Need-shared-slice-read-p Inv-loop μ-loop
 shared-slice-read-p c = search needs
 
-mul-p : tie.Need-mul-p Inv-loop μ-loop
-mul-p c = record { fits = omega (arith, bit-times (c .before .before .loop .p) (getD (c .before .before .before .args .x .now) (c .before .before .loop .i) 0 % 2) (c .before .before .loop .inv .0) (omega arith)) }
-
 add-i : tie.Need-add-i Inv-loop μ-loop
 add-i c = search needs
 
@@ -33,6 +30,7 @@ loop-again : tie.Need-loop-again Inv-loop μ-loop
 loop-again c =
     let l = c .before .before .loop in
     let x = c .before .before .before .args .x .now in
+    rw (and-bit (l .p) (getD x (l .i) 0) (l .inv .0))
     (bit-times (l .p) (getD x (l .i) 0 % 2) (l .inv .0) (omega arith), search needs, product-step x (l .p) (l .i) (l .inv .0) (search needs) (l .inv .2))
 
 returns : tie.Need-returns Inv-loop μ-loop
@@ -46,7 +44,6 @@ product-spec =
     μ-loop
     loop-holds
     shared-slice-read-p
-    mul-p
     add-i
     loop-less
     loop-again
