@@ -251,7 +251,7 @@ unfolding spotOf
 count-more net ds g = omega (arith, kinds-more net andKind g, kinds-more net muxKind g)
 
 -- A front of records over a list.
-pub length-over-levels : (front old : List Level) → length front ≤ length old → length (overLevels front old) ≡ length old
+length-over-levels : (front old : List Level) → length front ≤ length old → length (overLevels front old) ≡ length old
 unfolding overLevels
 length-over-levels front old l = length-append front _ ∙ omega (arith, length-drop (length front) old)
 

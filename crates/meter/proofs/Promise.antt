@@ -11,11 +11,11 @@ use Rattle.answer.specs.Fronts.{over, left}
 use Rattle.answer.proofs.Rows.{stop, go, refuse-yes, refuse-not}
 use Rattle.answer.proofs.Over.{over-at, length-over, made}
 use Rattle.netlist.specs.Net.{depths}
-use Rattle.netlist.specs.Words.{inputsOf, gatesOf, gatePlace, netOf}
+use Rattle.netlist.specs.Words.{inputsOf, gatesOf, netOf}
 use Rattle.meter.specs.declared.Level.{Level}
 use Rattle.meter.specs.declared.Measured.{Measured}
 use Rattle.meter.specs.declared.Plan.{Plan}
-use Rattle.meter.specs.Levels.{andKind, muxKind, kindCount, levelCount, levels, levelsBelow, overLevels, leftLevels}
+use Rattle.meter.specs.Levels.{andKind, muxKind, kindCount, levelCount, levels, levelsBelow, overLevels}
 use Rattle.meter.specs.Meter.{depthsAnswer, levelsAnswer, meterAnswer, MeteredAs}
 use Rattle.meter.specs.Passes.{Lent, MeasuredAs}
 use Rattle.meter.specs.Counted.{noPlan, Countable, PlannedAs}

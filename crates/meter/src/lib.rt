@@ -302,6 +302,7 @@ fn put_levels(net: &[u32], depths: &[u32], levels: &mut [Level], gates: usize, c
     tally(net, depths, levels, gates)
 }
 
+// A refusal leaves no gate to count and no level to write: put_levels then keeps the list as it is.
 pub fn meter(net: &[u32], depths: &mut [u32], levels: &mut [Level]) -> Metered
     ensures { λ r. ⌜ MeteredAs (now (net .entry)) (now (depths .entry)) (now (levels .entry)) r (now (depths .exit)) (now (levels .exit)) ⌝ }
 {

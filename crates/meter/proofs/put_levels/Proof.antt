@@ -1,5 +1,5 @@
 -- `put_levels` meets its contract: a walk of its MIR, by hand: straight code with two calls. `levels` is lent again to `clear_levels` and comes back, and then it is given up to `tally`, which says its last list.
-use mathlib.Core.Path.{_≡_, refl, sym, ap, subst, _∙_}
+use mathlib.Core.Path.{_≡_, refl, _∙_}
 use Prim.Native.Nat.{ℕ, _+_, _<_, _≤_, _^_}
 use mathlib.Core.List.{[], _∷_, List}
 use lib.ListN.{length, replicate}
@@ -37,7 +37,7 @@ use denote.Triple.Clauses.{ensured, lasts}
 use denote.Triple.Walked.{says, needs, Stays, gave-slice, stay-none, stay-none-slice, walkOf, goes-gave-slice, goes-none, goes-none-slice, Walks, ends-at, walked, walk-meets}
 use denote.Exit.{yes}
 use Rattle.meter.specs.declared.Level.{Level}
-use Rattle.meter.specs.Levels.{andKind, muxKind, kindCount, levelsBelow, overLevels}
+use Rattle.meter.specs.Levels.{andKind, muxKind, kindCount, overLevels}
 use Rattle.meter.specs.Counted.{noGates, tallied, Countable}
 use Rattle.meter.proofs.Levels.{levels-stand, both-count}
 use Rattle.meter.proofs.Again.{LentAgain, lends-again, comes-back}
