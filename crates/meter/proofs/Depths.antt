@@ -42,7 +42,7 @@ zeros-more n old e l =
     ∙ ap (λ (k : ℕ). replicate (n + 1) 0 ++ drop k old) (sym (length-replicate (n + 1) 0))
 
 -- a front written over a list stands in it
-pub over-stands : {new : List ℕ} (front old : List ℕ) → new ≡ over front old → new ≡ over front new
+over-stands : {new : List ℕ} (front old : List ℕ) → new ≡ over front old → new ≡ over front new
 over-stands front old e = rw e (sym (over-over front front old (omega arith)))
 
 -- The depths of the first gates: how many, one more, and none above the number of gates.

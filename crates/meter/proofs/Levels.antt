@@ -20,8 +20,9 @@ use Rattle.netlist.proofs.Sim.{length-snoc, split, split-suc}
 use Rattle.netlist.proofs.Glued.{map-append}
 use Rattle.netlist.proofs.Words.{gates-snoc}
 use Rattle.meter.specs.declared.Level.{Level}
+use Rattle.meter.specs.declared.Spot.{Spot}
 use Rattle.meter.specs.Levels.{one, andKind, muxKind, kindCount, hits, levelAt, levelsBelow, levelCount, levels, overLevels, leftLevels, total}
-use Rattle.meter.specs.Counted.{noGates, bump, withGate, tallied, Countable, Tallies}
+use Rattle.meter.specs.Counted.{spotOf, noGates, bump, withGate, tallied, Countable, Tallies}
 use Rattle.meter.proofs.Depths.{gate-level}
 
 -- gate g is of kind code k; the depth that ds has of it
@@ -78,9 +79,9 @@ module _ (net : List ℕ) (k : ℕ) where
   unfolding kindCount
   kinds-none = refl
 
-  kinds-more : (g : ℕ) → kindCount net k (g + 1) ≡ kindCount net k g + one (kindIs net k g)
+  kinds-more : (g : ℕ) → kindCount net k (suc g) ≡ kindCount net k g + one (kindIs net k g)
   unfolding kindCount
-  kinds-more g = rw (add-one g)
+  kinds-more g = refl
 
 module _ (net ds : List ℕ) (k : ℕ) where
   -- the count at the gate's depth gains the gate, and every other is as it was
@@ -238,19 +239,19 @@ kinds-muls net (suc g) =
 pub kinds-mults : (net : List ℕ) → kindCount net andKind (gatesOf net) + kindCount net muxKind (gatesOf net) ≡ mults (netOf net)
 kinds-mults net = kinds-muls net (gatesOf net)
 
--- the number of gates counted so far
-module _ (net : List ℕ) (g : ℕ) {n a m : ℕ} (e : n ≡ kindCount net andKind g + kindCount net muxKind g) (p : a ≡ one (kindIs net andKind g)) (q : m ≡ one (kindIs net muxKind g)) where
-  pub count-fits : n + a + m ≤ g + g + 2
-  count-fits = omega (arith, kinds-le net andKind g, kinds-le net muxKind g, one-le (kindIs net andKind g), one-le (kindIs net muxKind g))
-
-  pub count-more : n + a + m ≡ kindCount net andKind (g + 1) + kindCount net muxKind (g + 1)
-  count-more = omega (arith, kinds-more net andKind g, kinds-more net muxKind g)
-
+-- The number of gates counted so far: none, at most two for each gate, and what the next one adds.
 pub count-none : (net : List ℕ) → 0 ≡ kindCount net andKind 0 + kindCount net muxKind 0
 count-none net = omega (arith, kinds-none net andKind, kinds-none net muxKind)
 
+pub count-le : (net : List ℕ) (g : ℕ) → kindCount net andKind g + kindCount net muxKind g ≤ g + g
+count-le net g = omega (arith, kinds-le net andKind g, kinds-le net muxKind g)
+
+pub count-more : (net ds : List ℕ) (g : ℕ) → kindCount net andKind g + kindCount net muxKind g + spotOf net ds g .multiplications ≡ kindCount net andKind (suc g) + kindCount net muxKind (suc g)
+unfolding spotOf
+count-more net ds g = omega (arith, kinds-more net andKind g, kinds-more net muxKind g)
+
 -- A front of records over a list.
-pub length-over-levels : (front old : List Level) → length front ≤ length old → length (overLevels front old) ≡ length old
+length-over-levels : (front old : List Level) → length front ≤ length old → length (overLevels front old) ≡ length old
 unfolding overLevels
 length-over-levels front old l = length-append front _ ∙ omega (arith, length-drop (length front) old)
 
@@ -301,9 +302,12 @@ module _ (net ds : List ℕ) (ls : List Level) where
   unfolding tallied
   tallied-none = refl
 
-  pub tallied-more : (g : ℕ) → set (tallied net ds g ls) (depthOf net ds g) (bump (getD (tallied net ds g ls) (depthOf net ds g) noGates) (getD net (gatePlace g) 0)) ≡ tallied net ds (suc g) ls
-  unfolding tallied withGate
-  tallied-more g = refl
+  pub tallied-more : (g : ℕ) {s : Spot} {v : Level} → s ≡ spotOf net ds g → v ≡ getD (tallied net ds g ls) (s .at) noGates
+      → set (tallied net ds g ls) (s .at) (record { ands = v .ands + s .ands; muxes = v .muxes + s .muxes }) ≡ tallied net ds (suc g) ls
+  unfolding tallied withGate bump spotOf
+  tallied-more g {s} {v} e q =
+      ap (λ (v : Level). set (tallied net ds g ls) (s .at) (record { ands = v .ands + s .ands; muxes = v .muxes + s .muxes })) q
+      ∙ (λ i. set (tallied net ds g ls) (e i .at) (record { ands = getD (tallied net ds g ls) (e i .at) noGates .ands + e i .ands; muxes = getD (tallied net ds g ls) (e i .at) noGates .muxes + e i .muxes }))
 
   bump-le : (v : Level) (k m : ℕ) → Small m v → Small (suc m) (bump v k)
   unfolding bump

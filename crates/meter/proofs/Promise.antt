@@ -11,16 +11,16 @@ use Rattle.answer.specs.Fronts.{over, left}
 use Rattle.answer.proofs.Rows.{stop, go, refuse-yes, refuse-not}
 use Rattle.answer.proofs.Over.{over-at, length-over, made}
 use Rattle.netlist.specs.Net.{depths}
-use Rattle.netlist.specs.Words.{inputsOf, gatesOf, gatePlace, netOf}
+use Rattle.netlist.specs.Words.{inputsOf, gatesOf, netOf}
 use Rattle.meter.specs.declared.Level.{Level}
 use Rattle.meter.specs.declared.Measured.{Measured}
 use Rattle.meter.specs.declared.Plan.{Plan}
-use Rattle.meter.specs.Levels.{andKind, muxKind, kindCount, levelCount, levels, levelsBelow, overLevels, leftLevels}
+use Rattle.meter.specs.Levels.{andKind, muxKind, kindCount, levelCount, levels, levelsBelow, overLevels}
 use Rattle.meter.specs.Meter.{depthsAnswer, levelsAnswer, meterAnswer, MeteredAs}
 use Rattle.meter.specs.Passes.{Lent, MeasuredAs}
 use Rattle.meter.specs.Counted.{noPlan, Countable, PlannedAs}
 use Rattle.meter.proofs.Depths.{depths-count, gate-level}
-use Rattle.meter.proofs.Levels.{kinds-mults, below-agree, none-over, levels-kept, levels-made}
+use Rattle.meter.proofs.Levels.{kinds-mults, count-none, below-agree, none-over, levels-kept, levels-made}
 use Rattle.meter.proofs.Judged.{none, some, judged-lent}
 
 nothing-countable : (net ds : List ℕ) → Countable net ds 0 0
@@ -36,10 +36,10 @@ refused-plan {net} {ds} {ds′} {room} is h e f =
     record {
       answered = e;
       deep = none _ h;
-      multiplied = none _ h;
       filled = f;
       countable = nothing-countable net ds′;
       fits = omega arith;
+      multiply = sym (count-none net) ∙ none _ h;
       counts = λ ls. none-over net ds′ ls ∙ levels-kept _ _ h;
     }
 
@@ -80,17 +80,16 @@ module _ {net ds : List ℕ} {p : Measured} {ds′ : List ℕ} (m : MeasuredAs n
           low = λ k h. omega (arith, depth-at k h, gate-level (netOf net) k);
         }
 
-    pub planned : {room n : ℕ} → p .levels ≤ room → n ≡ kindCount net andKind (gatesOf net) + kindCount net muxKind (gatesOf net)
-        → PlannedAs net ds room (record { metered = record { answer = Done; depth = p .depth; multiplications = n }; gates = gatesOf net; levels = p .levels }) ds′
+    pub planned : {room : ℕ} → p .levels ≤ room → PlannedAs net ds room (record { answer = Done; depth = p .depth; gates = gatesOf net; levels = p .levels }) ds′
     unfolding meterAnswer levelsAnswer levels
-    planned {room} l h =
+    planned {room} l =
         record {
           answered = go (m .answered) d (sym (refuse-not _ _ _ (le-ltb room (levelCount (netOf net)) (omega (arith, tall-is)))));
           deep = m .deep ∙ sym (some _ d) ∙ some _ refl;
-          multiplied = h ∙ kinds-mults net ∙ some _ refl;
           filled = fills;
           countable = subst (Countable net ds′ (gatesOf net)) (sym tall-is) all-countable;
           fits = l;
+          multiply = kinds-mults net ∙ some _ refl;
           counts = λ ls.
               ap (λ (c : ℕ). overLevels (levelsBelow net ds′ (gatesOf net) c) ls) tall-is
               ∙ ap (λ (f : List Level). overLevels f ls) (below-agree net ds′ (depths (netOf net)) (gatesOf net) (levelCount (netOf net)) depth-at)
@@ -98,7 +97,8 @@ module _ {net ds : List ℕ} {p : Measured} {ds′ : List ℕ} (m : MeasuredAs n
         }
 
 -- what was planned, counted
-pub metered : {net ds ds′ : List ℕ} {ls ls′ : List Level} {p : Plan} → PlannedAs net ds (length ls) p ds′
-    → ls′ ≡ overLevels (levelsBelow net ds′ (p .gates) (p .levels)) ls → MeteredAs net ds ls (p .metered) ds′ ls′
-metered {ls = ls} m e =
-    record { answered = m .answered; deep = m .deep; multiplied = m .multiplied; filled = m .filled; counted = e ∙ m .counts ls }
+pub metered : {net ds ds′ : List ℕ} {ls ls′ : List Level} {p : Plan} {n : ℕ} → PlannedAs net ds (length ls) p ds′
+    → n ≡ kindCount net andKind (p .gates) + kindCount net muxKind (p .gates) → ls′ ≡ overLevels (levelsBelow net ds′ (p .gates) (p .levels)) ls
+    → MeteredAs net ds ls (record { answer = p .answer; depth = p .depth; multiplications = n }) ds′ ls′
+metered {ls = ls} m h e =
+    record { answered = m .answered; deep = m .deep; multiplied = h ∙ m .multiply; filled = m .filled; counted = e ∙ m .counts ls }

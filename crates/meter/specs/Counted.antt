@@ -12,16 +12,21 @@ use Rattle.netlist.specs.Check.{gateLimit}
 use Rattle.meter.specs.declared.Level.{Level}
 use Rattle.meter.specs.declared.Plan.{Plan}
 use Rattle.meter.specs.declared.Spot.{Spot}
-use Rattle.meter.specs.Levels.{one, andKind, muxKind, levels, levelsBelow, overLevels, leftLevels}
+use Rattle.meter.specs.Levels.{one, andKind, muxKind, kindCount, levels, levelsBelow, overLevels, leftLevels}
 use Rattle.meter.specs.Meter.{depthsAnswer, meterAnswer, ifDone}
 
 -- nothing to count after a refusal
 unfoldable pub noPlan : Answer → Plan
-noPlan a = record { metered = record { answer = a; depth = 0; multiplications = 0 }; gates = 0; levels = 0 }
+noPlan a = record { answer = a; depth = 0; gates = 0; levels = 0 }
 
 -- where gate g is counted, and as what
 unfoldable pub spotOf : List ℕ → List ℕ → ℕ → Spot
-spotOf net ds g = record { at = getD ds (inputsOf net + g) 0; kind = getD net (gatePlace g) 0 }
+spotOf net ds g = record {
+  at = getD ds (inputsOf net + g) 0;
+  ands = one (eqb (getD net (gatePlace g) 0) andKind);
+  muxes = one (eqb (getD net (gatePlace g) 0) muxKind);
+  multiplications = one (eqb (getD net (gatePlace g) 0) andKind) + one (eqb (getD net (gatePlace g) 0) muxKind);
+}
 
 abbrev pub noGates : Level
 noGates = record { ands = 0; muxes = 0 }
@@ -51,13 +56,13 @@ pub record Tallies (net ds : List ℕ) (g : ℕ) (ls : List Level) : Type 0 wher
   pub countable : Countable net ds g (length ls)
   pub none : (k : ℕ) → k < g → getD ls (getD ds (inputsOf net + k) 0) noGates ≡ noGates
 
--- What is returned by a call that was lent net, ds and room records, what it leaves in ds, and what is left to count:
--- whatever the records hold, the counts written over them are what the answer leaves.
+-- What is answered by a call that was lent net, ds and room records, what it leaves in ds, and what is left to count: the
+-- gates that multiply, and, whatever the records hold, the counts that written over them are what the answer leaves.
 pub record PlannedAs (net ds : List ℕ) (room : ℕ) (p : Plan) (ds′ : List ℕ) : Type 0 where
-  pub answered : p .metered .answer ≡ meterAnswer net (length ds) room
-  pub deep : p .metered .depth ≡ ifDone (p .metered .answer) (depth (netOf net))
-  pub multiplied : p .metered .multiplications ≡ ifDone (p .metered .answer) (mults (netOf net))
+  pub answered : p .answer ≡ meterAnswer net (length ds) room
+  pub deep : p .depth ≡ ifDone (p .answer) (depth (netOf net))
   pub filled : ds′ ≡ left (depthsAnswer net (length ds)) (depths (netOf net)) ds
   pub countable : Countable net ds′ (p .gates) (p .levels)
   pub fits : p .levels ≤ room
-  pub counts : (ls : List Level) → overLevels (levelsBelow net ds′ (p .gates) (p .levels)) ls ≡ leftLevels (p .metered .answer) (levels net) ls
+  pub multiply : kindCount net andKind (p .gates) + kindCount net muxKind (p .gates) ≡ ifDone (p .answer) (mults (netOf net))
+  pub counts : (ls : List Level) → overLevels (levelsBelow net ds′ (p .gates) (p .levels)) ls ≡ leftLevels (p .answer) (levels net) ls

@@ -19,7 +19,7 @@ ghost use Rattle.netlist.specs.Check.{gateLimit};
 ghost use Rattle.meter.specs.Levels.{one, andKind, muxKind, kindCount, levelsBelow, overLevels};
 ghost use Rattle.meter.specs.Meter.{depthsAnswer, MeteredAs};
 ghost use Rattle.meter.specs.Passes.{deepest, depthsTo, Lent, MeasuredAs};
-ghost use Rattle.meter.specs.Counted.{noPlan, PlannedAs, spotOf, noGates, bump, tallied, Countable, Tallies};
+ghost use Rattle.meter.specs.Counted.{noPlan, PlannedAs, spotOf, noGates, tallied, Countable, Tallies};
 
 // A level record: the AND gates and the MUX gates of one depth.
 #[repr(C)]
@@ -42,17 +42,21 @@ struct Measured {
     levels: usize,
 }
 
-// What a call returns, and what it has still to count: how many gates in how many levels, none on a refusal.
+// The answer and the netlist's depth, and how many gates are still to be counted in how many levels: none on
+// a refusal.
 struct Plan {
-    metered: Metered,
+    answer: Answer,
+    depth: u32,
     gates: usize,
     levels: usize,
 }
 
-// Where a gate is counted, and as what.
+// At which level a gate is counted, and what it adds there and to the multiplications.
 struct Spot {
     at: usize,
-    kind: u32,
+    ands: u32,
+    muxes: u32,
+    multiplications: u32,
 }
 
 fn larger(a: u32, b: u32) -> u32
@@ -202,34 +206,13 @@ fn one_if(a: u32, b: u32) -> u32
     if a == b { 1 } else { 0 }
 }
 
-// How many gates are ANDs or MUXes.
-fn multiplications(net: &[u32], gates: usize) -> u32
-    requires { ⌜ (gatePlace gates ≤ length (now net)) × (gates ≤ gateLimit) ⌝ }
-    ensures { λ r. ⌜ r ≡ kindCount (now (net .entry)) andKind gates + kindCount (now (net .entry)) muxKind gates ⌝ }
-{
-    let mut n: u32 = 0;
-    let mut g: usize = 0;
-    while g < gates {
-        let kind = net[HEADER_WORDS + GATE_STRIDE * g];
-        let a = one_if(kind, AND_KIND);
-        let m = one_if(kind, MUX_KIND);
-        n = n + a + m;
-        g += 1;
-    }
-    n
-}
-
 // A refusal, after which there is nothing to count.
 fn refused(answer: Answer) -> Plan
     ensures { λ r. ⌜ r ≡ noPlan answer ⌝ }
 {
-    let metered = Metered {
+    Plan {
         answer,
         depth: 0,
-        multiplications: 0,
-    };
-    Plan {
-        metered,
         gates: 0,
         levels: 0,
     }
@@ -254,19 +237,15 @@ fn prepare(net: &[u32], depths: &mut [u32], room: usize) -> Plan
         return refused(short);
     }
     let gates = net[1] as usize;
-    let metered = Metered {
+    Plan {
         answer: Answer::Done,
         depth: p.depth,
-        multiplications: multiplications(net, gates),
-    };
-    Plan {
-        metered,
         gates,
         levels,
     }
 }
 
-// The kind of gate g, and its depth: where it is counted.
+// What gate g adds, and where.
 fn spot_of(net: &[u32], depths: &[u32], g: usize) -> Spot
     requires { ⌜ (gatePlace g < length (now net)) × (inputsOf (now net) + g < length (now depths)) ⌝ }
     ensures { λ r. ⌜ r ≡ spotOf (now (net .entry)) (now (depths .entry)) g ⌝ }
@@ -274,17 +253,14 @@ fn spot_of(net: &[u32], depths: &[u32], g: usize) -> Spot
     let inputs = net[0] as usize;
     let at = depths[inputs + g] as usize;
     let kind = net[HEADER_WORDS + GATE_STRIDE * g];
-    Spot { at, kind }
-}
-
-// A record with a gate of the given kind more.
-fn bumped(level: Level, kind: u32) -> Level
-    requires { ⌜ (level .ands ≤ gateLimit) × (level .muxes ≤ gateLimit) ⌝ }
-    ensures { λ r. ⌜ r ≡ bump level kind ⌝ }
-{
-    let ands = level.ands + one_if(kind, AND_KIND);
-    let muxes = level.muxes + one_if(kind, MUX_KIND);
-    Level { ands, muxes }
+    let a = one_if(kind, AND_KIND);
+    let m = one_if(kind, MUX_KIND);
+    Spot {
+        at,
+        ands: a,
+        muxes: m,
+        multiplications: a + m,
+    }
 }
 
 // The first count records without gates.
@@ -299,33 +275,42 @@ fn clear_levels(levels: &mut [Level], count: usize)
     }
 }
 
-// Counts the gates by depth, in one pass over levels that stand at 0.
-fn tally(net: &[u32], depths: &[u32], levels: &mut [Level], gates: usize)
+// Counts the AND and the MUX gates by depth, in one pass over levels that stand at 0, and all of them.
+fn tally(net: &[u32], depths: &[u32], levels: &mut [Level], gates: usize) -> u32
     requires { ⌜ Tallies (now net) (now depths) gates (now levels) ⌝ }
-    ensures { λ _. ⌜ now (levels .exit) ≡ tallied (now (net .entry)) (now (depths .entry)) gates (now (levels .entry)) ⌝ }
+    ensures { λ r. ⌜ (r ≡ kindCount (now (net .entry)) andKind gates + kindCount (now (net .entry)) muxKind gates) × (now (levels .exit) ≡ tallied (now (net .entry)) (now (depths .entry)) gates (now (levels .entry))) ⌝ }
 {
+    let mut n: u32 = 0;
     let mut g: usize = 0;
     while g < gates {
         let s = spot_of(net, depths, g);
         let at = s.at;
-        levels[at] = bumped(levels[at], s.kind);
+        levels[at].ands += s.ands;
+        levels[at].muxes += s.muxes;
+        n += s.multiplications;
         g += 1;
     }
+    n
 }
 
-// The level records, cleared and counted.
-fn put_levels(net: &[u32], depths: &[u32], levels: &mut [Level], gates: usize, count: usize)
+// The level records, cleared and counted, and how many gates they count.
+fn put_levels(net: &[u32], depths: &[u32], levels: &mut [Level], gates: usize, count: usize) -> u32
     requires { ⌜ (Countable (now net) (now depths) gates count) × (count ≤ length (now levels)) ⌝ }
-    ensures { λ _. ⌜ now (levels .exit) ≡ overLevels (levelsBelow (now (net .entry)) (now (depths .entry)) gates count) (now (levels .entry)) ⌝ }
+    ensures { λ r. ⌜ (r ≡ kindCount (now (net .entry)) andKind gates + kindCount (now (net .entry)) muxKind gates) × (now (levels .exit) ≡ overLevels (levelsBelow (now (net .entry)) (now (depths .entry)) gates count) (now (levels .entry))) ⌝ }
 {
     clear_levels(levels, count);
-    tally(net, depths, levels, gates);
+    tally(net, depths, levels, gates)
 }
 
+// A refusal leaves no gate to count and no level to write: put_levels then keeps the list as it is.
 pub fn meter(net: &[u32], depths: &mut [u32], levels: &mut [Level]) -> Metered
     ensures { λ r. ⌜ MeteredAs (now (net .entry)) (now (depths .entry)) (now (levels .entry)) r (now (depths .exit)) (now (levels .exit)) ⌝ }
 {
     let p = prepare(net, depths, levels.len());
-    put_levels(net, depths, levels, p.gates, p.levels);
-    p.metered
+    let n = put_levels(net, depths, levels, p.gates, p.levels);
+    Metered {
+        answer: p.answer,
+        depth: p.depth,
+        multiplications: n,
+    }
 }

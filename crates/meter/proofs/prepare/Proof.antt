@@ -45,18 +45,13 @@ shared-slice-read-gates c = omega (arith, accepted (c .before .before) .size)
 cast-gates : tie.Need-cast-gates
 cast-gates c = omega (arith, accepted (c .before .before) .limits)
 
-multiplications-requires : tie.Need-multiplications-requires
-multiplications-requires c κs =
-    let s = accepted (c .before .before) in
-    (omega (arith, s .size), s .limits .gates)
-
 same-length-3 : tie.Need-same-length-3
 same-length-3 c = search needs
 
 returns-3 : tie.Need-returns-3
 returns-3 c =
-    let d = c .before .before .before in
-    planned (d .before .before .before .before .measure .ensures) (d .enum-told .given .1) (c .before .before .if1 .left) (c .multiplications .ensures)
+    let d = c .before .before in
+    planned (d .before .before .before .before .measure .ensures) (d .enum-told .given .1) (c .before .if1 .left)
 
 pub prepare-spec : {M : Type 1} → statement M
 prepare-spec =
@@ -73,6 +68,5 @@ prepare-spec =
     returns-2
     shared-slice-read-gates
     cast-gates
-    multiplications-requires
     same-length-3
     returns-3)

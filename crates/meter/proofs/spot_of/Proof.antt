@@ -1,9 +1,12 @@
 use Prim.Native.Nat.{_+_}
-use mathlib.Core.Path.{refl}
 use native.Mathlib.Omega.{arith}
+use lib.Dec.{eqb}
 use lib.ListN.{getD}
 use denote.Ref.{now}
+use Rattle.netlist.specs.Words.{inputsOf, gatePlace}
+use Rattle.meter.specs.Levels.{andKind, muxKind}
 use Rattle.meter.specs.Counted.{spotOf}
+use Rattle.meter.proofs.Levels.{one-fits}
 use borrow.Author.Needs.{needs}
 use Rattle.meter.proofs.spot_of.Statement.{statement}
 use Rattle.meter.proofs.spot_of.Tie as tie
@@ -24,7 +27,9 @@ shared-slice-read-at : tie.Need-shared-slice-read-at
 shared-slice-read-at c = search needs
 
 cast-at : tie.Need-cast-at
-cast-at c = omega (arith, c .shared-slice-known2 .given (getD (now (c .before .before .args .net)) 0 0 + c .before .before .args .g))
+cast-at c =
+    let a = c .before .before .before .before .args in
+    omega (arith, c .shared-slice-known4 .given (inputsOf (now (a .net)) + a .g))
 
 mul-kind : tie.Need-mul-kind
 mul-kind c = search needs
@@ -38,9 +43,28 @@ mul-kind-2 c = search needs
 shared-slice-read-kind : tie.Need-shared-slice-read-kind
 shared-slice-read-kind c = search needs
 
+one-if-requires : tie.Need-one-if-requires
+one-if-requires c κs = search needs
+
+one-if-requires-2 : tie.Need-one-if-requires-2
+one-if-requires-2 c κs = search needs
+
+add-t10 : tie.Need-add-t10
+add-t10 c =
+    let a = c .before .before .before .before .before .before .before .args in
+    let k = getD (now (a .net)) (gatePlace (a .g)) 0 in
+    omega (arith, one-fits (eqb k andKind) (c .before .one-if .ensures), one-fits (eqb k muxKind) (c .one-if2 .ensures))
+
 returns : tie.Need-returns
 unfolding spotOf
-returns c = refl
+returns c =
+    let a = c .before .before .before .before .before .before .before .args in
+    λ i. record {
+      at = getD (now (a .depths)) (inputsOf (now (a .net)) + a .g) 0;
+      ands = c .before .one-if .ensures i;
+      muxes = c .one-if2 .ensures i;
+      multiplications = c .before .one-if .ensures i + c .one-if2 .ensures i;
+    }
 
 pub spot-of-spec : {M : Type 1} → statement M
 spot-of-spec =
@@ -56,4 +80,7 @@ spot-of-spec =
     add-kind
     mul-kind-2
     shared-slice-read-kind
+    one-if-requires
+    one-if-requires-2
+    add-t10
     returns)
