@@ -1,4 +1,3 @@
 pub mod Filter
 pub mod Papers
 pub mod Instances
-pub mod Cases
