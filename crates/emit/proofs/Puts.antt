@@ -6,7 +6,7 @@ use native.Mathlib.Omega.{arith}
 use native.Mathlib.Numerals.{add-one}
 use native.Mathlib.Nat.{zero-add}
 use lib.ListN.{length, getD, set, drop, length-append, drop-of-length-le}
-use lib.Seq.{sets, length-sets, drop-cons, sets-eq}
+use lib.Seq.{sets, set-set, set-comm, length-sets, drop-cons, sets-eq}
 use Rattle.answer.specs.Fronts.{over}
 use Rattle.netlist.specs.declared.gate.Gate.{Gate}
 use Rattle.netlist.specs.Gates.{gateWords}
@@ -29,6 +29,41 @@ put-length (g ∷ gs) out at = put-length gs (sets out at (gateWords g)) (at + 4
 pub put-one : (g : Gate) (out : List ℕ) (at : ℕ) → putGates out at (g ∷ []) ≡ sets out at (gateWords g)
 unfolding putGates
 put-one g out at = refl
+
+-- ---- a gate stored where another one will be is lost
+set-below : (vs l : List ℕ) (i j x : ℕ) → i < j → set (sets l j vs) i x ≡ sets (set l i x) j vs
+set-below [] l i j x h = refl
+set-below (v ∷ vs) l i j x h =
+    set-below vs (set l j v) i (suc j) x (omega arith) ∙ ap (λ (z : List ℕ). sets z (suc j) vs) (set-comm l j i v x (λ e. omega arith))
+
+sets-over : (vs ws l : List ℕ) (i : ℕ) → length vs ≡ length ws → sets (sets l i vs) i ws ≡ sets l i ws
+sets-over [] ws l i e = refl
+sets-over (v ∷ vs) [] l i e = absurd (omega arith)
+sets-over (v ∷ vs) (w ∷ ws) l i e =
+    ap (λ (z : List ℕ). sets z (suc i) ws) (set-below vs (set l i v) i (suc i) w (omega arith) ∙ ap (λ (z : List ℕ). sets z (suc i) vs) (set-set l i v w))
+    ∙ sets-over vs ws (set l i w) (suc i) (omega arith)
+
+gate-over : (g h : Gate) (out : List ℕ) (i : ℕ) → sets (sets out i (gateWords g)) i (gateWords h) ≡ sets out i (gateWords h)
+gate-over g h out i = sets-over (gateWords g) (gateWords h) out i (gateWords-length g ∙ sym (gateWords-length h))
+
+pub put-over : (gs : List Gate) (g h : Gate) (out : List ℕ) (i : ℕ) → putGates (sets out i (gateWords g)) i (gs ++ h ∷ []) ≡ putGates out i (gs ++ h ∷ [])
+unfolding putGates
+put-over [] g h out i = gate-over g h out i
+put-over (x ∷ gs) g h out i = ap (λ (o : List ℕ). putGates o (i + 4) (gs ++ h ∷ [])) (gate-over g x out i)
+
+-- gates stored but for the next one's words: once any gate is stored there, all is as it should be
+abbrev pub Awaits : List ℕ → ℕ → List Gate → List ℕ → Type 0
+Awaits out at gs o = (g : Gate) → putGates o (at + 4 * length gs) (g ∷ []) ≡ putGates out at (gs ++ g ∷ [])
+
+-- and then a run that is not empty
+pub awaited : (gs hs : List Gate) (g : Gate) (out o : List ℕ) (at i : ℕ) → Awaits out at gs o → i ≡ at + 4 * length gs → putGates o i (hs ++ g ∷ []) ≡ putGates out at (gs ++ (hs ++ g ∷ []))
+unfolding putGates
+awaited gs [] g out o at i a e = ap (λ (k : ℕ). putGates o k (g ∷ [])) e ∙ a g
+awaited gs (h ∷ hs) g out o at i a e =
+    ap (λ (k : ℕ). putGates (putGates o k (h ∷ [])) (k + 4) (hs ++ g ∷ [])) e
+    ∙ ap (λ (z : List ℕ). putGates z (at + 4 * length gs + 4) (hs ++ g ∷ [])) (a h)
+    ∙ put-append (gs ++ h ∷ []) (hs ++ g ∷ []) out at (at + 4 * length gs + 4) (omega (arith, length-append gs (h ∷ [])))
+    ∙ ap (putGates out at) (append-assoc gs (h ∷ []) (hs ++ g ∷ []))
 
 -- one run of gates, or one gate, from where the last one ended
 pub more : (out o₁ o₂ : List ℕ) (i j : ℕ) (gs hs : List Gate) → o₁ ≡ putGates out i gs → o₂ ≡ putGates o₁ j hs → j ≡ i + 4 * length gs → o₂ ≡ putGates out i (gs ++ hs)

@@ -23,6 +23,29 @@ use Rattle.emit.proofs.RowsVariables.{nots-few}
 use Rattle.emit.proofs.RowsTable.{large}
 use Rattle.emit.proofs.Writes.{wrote-same}
 
+-- the row of a list that the code lends at a bit
+abbrev slice-at : ℕ → List ℕ → List ℕ → List ℕ
+slice-at start xs l = take (start + length xs - start) (drop start l)
+
+-- what the next call asks, and what bounds the numbers
+pub record Turn (inst : ℕ) (idx wh out xs : List ℕ) (i wire start j : ℕ) : Type 0 where
+  pub row : length (slice-at start xs idx) ≡ rowBits inst
+  pub white : length (slice-at start xs wh) ≡ rowBits inst
+  pub below : getD (slice-at start xs idx) 81 0 < wire
+  pub space : i + 4 * (length (nots (slice-at start xs idx) (slice-at start xs wh)) + costOf inst .gates) ≤ length out
+  pub small : wire ≤ 300000
+  pub ends : start + rowBits inst ≤ length idx
+  pub ends-wh : start + rowBits inst ≤ length wh
+  pub rowMost : rowBits inst ≤ 1394
+  pub keyMost : keyBits inst ≤ 16384
+  pub count : j < 64
+
+-- the bit's wire, and where the next bit is stored
+pub record Bound (out : List ℕ) (i wire last : ℕ) : Type 0 where
+  pub more : wire ≤ last
+  pub less : last + 1 ≤ wire + 3000
+  pub space : i + 4 * (last + 1 - wire) ≤ length out
+
 module _ (inst : ℕ) (idx wh : List ℕ) where
   abbrev gatesFrom : ℕ → ℕ → ℕ → List Gate
   gatesFrom m j wire = bitsGates chain inst idx wh (m - j) j wire
@@ -75,7 +98,7 @@ module _ (inst : ℕ) (idx wh : List ℕ) where
 
     module _ (out xs wires : List ℕ) (i wire start j : ℕ) (g : Bitting m at next out₀ out xs wires i wire start j) (h : j < m) where
       abbrev slice : List ℕ → List ℕ
-      slice l = take (start + length xs - start) (drop start l)
+      slice = slice-at start xs
 
       abbrev P : Part
       P = bitPart chain inst (keyBits inst + j) wire (slice idx) (slice wh)
@@ -112,20 +135,7 @@ module _ (inst : ℕ) (idx wh : List ℕ) where
           ap length (gates-more m j wire h) ∙ length-append (part j wire .gates) _
           ∙ ap (λ (p : Part). length (p .gates) + length (gatesFrom m (suc j) (wire + length (part j wire .gates)))) (sym part-is)
 
-      -- what the next call asks, and what bounds the numbers
-      pub record Turn : Type 0 where
-        pub row : length (slice idx) ≡ rowBits inst
-        pub white : length (slice wh) ≡ rowBits inst
-        pub below : getD (slice idx) 81 0 < wire
-        pub space : i + 4 * (length (nots (slice idx) (slice wh)) + costOf inst .gates) ≤ length out
-        pub small : wire ≤ 300000
-        pub ends : start + rowBits inst ≤ length idx
-        pub ends-wh : start + rowBits inst ≤ length wh
-        pub rowMost : rowBits inst ≤ 1394
-        pub keyMost : keyBits inst ≤ 16384
-        pub count : j < 64
-
-      pub turn : Turn
+      pub turn : Turn inst idx wh out xs i wire start j
       turn =
           let q = large inst (W .low) (W .high) in
           let e = slice-ends in
@@ -151,13 +161,7 @@ module _ (inst : ℕ) (idx wh : List ℕ) where
             ap (λ (k : ℕ). k + 1) (wrote .wire)
             ∙ part-last inst (keyBits inst + j) wire (slice idx) (slice wh) (W .low) (W .high) (vars-length wire (slice idx) (slice wh) ∙ slice-long idx (W .rows .indices))
 
-        -- the bit's wire
-        pub record Bound : Type 0 where
-          pub more : wire ≤ last
-          pub less : last + 1 ≤ wire + 3000
-          pub space : i + 4 * (last + 1 - wire) ≤ length out
-
-        pub last-bound : Bound
+        pub last-bound : Bound out i wire last
         last-bound =
             let q = large inst (W .low) (W .high) in
             let n = nots-few (slice idx) (slice wh) in

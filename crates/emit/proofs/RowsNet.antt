@@ -1,5 +1,5 @@
 -- The netlist's words from its parts, the room that these take, and how many gates there are.
-use Prim.Native.Nat.{ℕ, _+_, _*_, _≤_}
+use Prim.Native.Nat.{ℕ, _+_, _*_, _<_, _≤_}
 use mathlib.Core.Path.{_≡_, sym, ap, ap₂, _∙_}
 use mathlib.Core.List.{List, [], _∷_}
 use native.Mathlib.Omega.{arith}
@@ -62,6 +62,9 @@ wiring-of inst m l idx wh e W = rw e W
 -- ---- the count in code
 pub count-is : (inst m n b : ℕ) (idx wh : List ℕ) → 1 ≤ inst → inst ≤ 5 → Rows inst m idx wh → n ≡ ones wh → b ≡ costOf inst .gates → n + m * b ≡ length (rowsNet chain inst idx wh m .gates)
 count-is inst m n b idx wh low high R en eb = ap₂ (λ (x y : ℕ). x + m * y) en eb ∙ sym (rows-gates inst m idx wh low high R)
+
+pub white-small : (inst m : ℕ) (wh : List ℕ) → m ≤ 64 → length wh ≡ m * rowBits inst → length wh < 4294967296
+white-small inst m wh few e = omega (arith, mul-le-mul few (row-small inst))
 
 pub record Small (m n b : ℕ) : Type 0 where
   pub product : m * b ≤ 89216

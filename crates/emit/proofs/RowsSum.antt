@@ -174,20 +174,26 @@ abbrev pub Onward : List ℕ → ℕ → ℕ → ℕ → ℕ → List ℕ → Li
 Onward out₀ acc₀ used₀ at next ds xs out acc used j =
     ((o : List ℕ) × Summing o at next ds xs out₀ acc₀ used₀ 1) × ((o : List ℕ) → Summing o at next ds xs out₀ acc₀ used₀ 1 → Summing o at next ds xs out acc used j)
 
--- what it says, of some list lent
-pub record Here (at next : ℕ) (ds xs out out₀ : List ℕ) (used j : ℕ) : Type 0 where
+-- what it says, of some list lent: what a turn asks, and that nothing grew
+pub record Fitting (ds xs : List ℕ) (used j : ℕ) : Type 0 where
   pub some : 1 ≤ used
   pub enough : used ≤ length xs
-  pub within : j ≤ length ds
-  pub outLong : length out ≡ length out₀
-  pub next-fits : j < length ds → Fits (getD ds j 0) (drop (suc j) ds) (length xs - used)
+  pub next : Fits (getD ds j 0) (drop (suc j) ds) (length xs - used)
 
-pub here : (out₀ : List ℕ) (acc₀ used₀ at next : ℕ) (ds xs out : List ℕ) (acc used j : ℕ) → Onward out₀ acc₀ used₀ at next ds xs out acc used j → Here at next ds xs out out₀ used j
-here out₀ acc₀ used₀ at next ds xs out acc used j v =
-    let o = v .0 .0 in
-    let s = v .0 .1 in
-    let g = v .1 o s in
-    record { some = omega (arith, g .count); enough = g .enough; within = g .within; outLong = g .outLong ∙ sym (s .outLong); next-fits = λ h. summing-fits o at next ds xs out acc used j g h }
+module _ (out₀ : List ℕ) (acc₀ used₀ at next : ℕ) (ds xs out : List ℕ) (acc used j : ℕ) (v : Onward out₀ acc₀ used₀ at next ds xs out acc used j) where
+  lent : List ℕ
+  lent = v .0 .0
+
+  here : Summing lent at next ds xs out acc used j
+  unfolding lent
+  here = v .1 lent (v .0 .1)
+
+  pub fitting : j < length ds → Fitting ds xs used j
+  fitting h = record { some = omega (arith, here .count); enough = here .enough; next = summing-fits lent at next ds xs out acc used j here h }
+
+  pub as-long : length out ≡ length out₀
+  unfolding lent
+  as-long = here .outLong ∙ sym (v .0 .1 .outLong)
 
 -- a turn, in the code's words
 pub summing-turn : (o : List ℕ) (at next : ℕ) (ds xs out : List ℕ) (acc used j : ℕ) → Summing o at next ds xs out acc used j → (out′ : List ℕ) (acc′ d : ℕ) → j < length ds → d ≡ getD ds j 0

@@ -9,31 +9,34 @@ use crate::put::put_header;
 use crate::put::put_words;
 ghost use mathlib.Core.Path.{_≡_};
 ghost use mathlib.Core.Bool.{true};
-ghost use mathlib.Core.List.{List, [], _∷_};
+ghost use mathlib.Core.List.{List, [], _∷_, _++_};
 ghost use Prim.Native.Nat.{ℕ, _+_, _*_, _≤_, _<_};
 ghost use lib.ListN.{length, getD};
+ghost use lib.Seq.{sets};
 ghost use Rattle.answer.specs.Fronts.{over};
 ghost use Rattle.netlist.specs.Words.{words};
-ghost use Rattle.wiring.specs.Exp.{emit, product, chain, monomials, fits};
+ghost use Rattle.netlist.specs.declared.gate.Gate.{Gate};
+ghost use Rattle.netlist.specs.declared.gate.Gate.the-variants.{Not};
+ghost use Rattle.netlist.specs.Gates.{gateWords};
+ghost use Rattle.wiring.specs.Exp.{wire, sum, emit, product, chain, monomials, fits};
 ghost use Rattle.wiring.specs.Costs.{costOf};
 ghost use Rattle.wiring.specs.Decipher.{nots, vars, filterExp, bitPart, bitsGates, bitsOuts, rowsNet};
 ghost use Rattle.instance.specs.Table.{keyBits, rowBits};
+ghost use Rattle.filter.specs.Filter.{ones};
 ghost use Rattle.filter.specs.Instances.{degreesOf};
 ghost use Rattle.wiring.specs.Rows.{Rows};
 ghost use Rattle.emit.specs.Put.{putGates, Wrote};
 ghost use Rattle.emit.specs.Rows.{wireOf, flips, term, Wiring};
 
-// A NOT of wire p where whitening w asks for one; how many that were.
+// A NOT of wire p, and whether it counts: where whitening w asks for one. One that does not count is stored all the
+// same, and the next gate goes over it: w is as good as random, and a branch on it would be guessed wrong.
 fn put_not(out: &mut [u32], at: usize, p: u32, w: u8) -> u32
-    requires { ⌜ at + 4 * flips w ≤ length (now out) ⌝ }
+    requires { ⌜ at + 4 ≤ length (now out) ⌝ }
     ensures { λ r. ⌜ (r ≡ flips w) × (r ≤ 1) ⌝ }
-    ensures { λ _. ⌜ now (out .exit) ≡ putGates (now (out .entry)) at (nots (p ∷ []) (w ∷ [])) ⌝ }
+    ensures { λ _. ⌜ now (out .exit) ≡ sets (now (out .entry)) at (gateWords (Not p)) ⌝ }
 {
-    if w == 0 {
-        return 0;
-    }
     put_gate(out, at, NOT, p, 0, 0);
-    1
+    if w == 0 { 0 } else { 1 }
 }
 
 // The wire of a variable: the key's, or its NOT's.
@@ -43,12 +46,13 @@ fn pick_wire(p: u32, w: u8, next: u32) -> u32
     if w == 0 { p } else { next }
 }
 
-// The NOTs of a row and the wires of its variables; the first wire after the NOTs.
+// The NOTs of a row and the wires of its variables; the first wire after the NOTs. The words behind the NOTs are the
+// next gate's: once any gate is stored there, all is as it should be.
 fn put_vars(out: &mut [u32], at: usize, row: &[u32], ws: &[u8], next: u32, xs: &mut [u32]) -> u32
     requires { ⌜ (length (now ws) ≡ length (now row)) × (length (now xs) ≡ length (now row)) ⌝ }
-    requires { ⌜ (at + 4 * length (nots (now row) (now ws)) ≤ length (now out)) × (next + length (now row) < 4294967296) ⌝ }
+    requires { ⌜ (at + 4 * (length (nots (now row) (now ws)) + 1) ≤ length (now out)) × (next + length (now row) < 4294967296) ⌝ }
     ensures { λ r. ⌜ r ≡ next + length (nots (now (row .entry)) (now (ws .entry))) ⌝ }
-    ensures { λ _. ⌜ now (out .exit) ≡ putGates (now (out .entry)) at (nots (now (row .entry)) (now (ws .entry))) ⌝ }
+    ensures { λ _. ⌜ ((g : Gate) → putGates (now (out .exit)) (at + 4 * length (nots (now (row .entry)) (now (ws .entry)))) (g ∷ []) ≡ putGates (now (out .entry)) at (nots (now (row .entry)) (now (ws .entry)) ++ g ∷ [])) ⌝ }
     ensures { λ _. ⌜ now (xs .exit) ≡ vars next (now (row .entry)) (now (ws .entry)) ⌝ }
 {
     let mut i = at;
@@ -165,7 +169,33 @@ fn bit_gates(instance: u32) -> usize
     instance::row_bits(instance)
 }
 
-// One bit: NOTs, filter, XOR with the record bit at wire rec; its wire. xs is room for the row's wires.
+// The filter over the variables' wires, and its XOR with the record bit at wire rec; its wire.
+fn put_filtered(out: &mut [u32], at: usize, instance: u32, rec: u32, next: u32, xs: &[u32]) -> u32
+    requires { ⌜ (1 ≤ instance) × (instance ≤ 5) × (length (now xs) ≡ rowBits instance) × (getD (now xs) 81 0 < next) × (next ≤ 400000) ⌝ }
+    requires { ⌜ at + 4 * costOf instance .gates ≤ length (now out) ⌝ }
+    ensures { λ r. ⌜ Wrote (now (out .entry)) at (emit next (sum (filterExp chain instance (now (xs .entry))) (wire rec))) (now (out .exit)) r ⌝ }
+{
+    let k = bit_gates(instance);
+    let f = put_filter(out, at, next, instance, xs);
+    put_gate(out, at + 4 * (k - 1), XOR, f, rec, 0);
+    next + ((k - 1) as u32)
+}
+
+// The whitening bits of a row or'ed together: none is above it. The compiler does many at a time.
+fn joined(ws: &[u8]) -> u8
+    ensures { λ r. ⌜ ((k : ℕ) → k < length (now (ws .entry)) → getD (now (ws .entry)) k 0 ≤ r) ⌝ }
+{
+    let mut all: u8 = 0;
+    let mut j: usize = 0;
+    while j < ws.len() {
+        all = all | ws[j];
+        j += 1;
+    }
+    all
+}
+
+// One bit: NOTs, filter, XOR with the record bit at wire rec; its wire. xs is room for the row's wires. Where nothing
+// is whitened, as in FLIP, these are the row itself.
 fn put_bit(
     out: &mut [u32],
     at: usize,
@@ -181,12 +211,12 @@ fn put_bit(
     requires { ⌜ at + 4 * (length (nots (now row) (now ws)) + costOf instance .gates) ≤ length (now out) ⌝ }
     ensures { λ r. ⌜ Wrote (now (out .entry)) at (bitPart chain instance rec next (now (row .entry)) (now (ws .entry))) (now (out .exit)) r ⌝ }
 {
-    let k = bit_gates(instance);
+    if joined(ws) == 0 {
+        return put_filtered(out, at, instance, rec, next, row);
+    }
     let free = put_vars(out, at, row, ws, next, xs);
     let i = at + 4 * ((free - next) as usize);
-    let f = put_filter(out, i, free, instance, xs);
-    put_gate(out, i + 4 * (k - 1), XOR, f, rec, 0);
-    free + ((k - 1) as u32)
+    put_filtered(out, i, instance, rec, free, xs)
 }
 
 // The gates of all bits, from word at and wire next on; wires gets the bits' wires. The record bits follow key wires.
@@ -231,13 +261,27 @@ fn put_bits(
     }
 }
 
+// How many bits are 1, summed in 32 bits: the compiler adds more of those at a time than of 64.
+fn count_ones(wh: &[u8]) -> u32
+    requires { ⌜ length (now wh) < 4294967296 ⌝ }
+    ensures { λ r. ⌜ r ≡ ones (now (wh .entry)) ⌝ }
+{
+    let mut n: u32 = 0;
+    let mut i: usize = 0;
+    while i < wh.len() {
+        n += (wh[i] % 2) as u32;
+        i += 1;
+    }
+    n
+}
+
 // How many gates the netlist of m bits has, whatever the indices: a NOT for each whitening 1, and the others.
 pub(crate) fn rows_gates(instance: u32, m: u32, wh: &[u8]) -> usize
     requires { ⌜ (1 ≤ instance) × (instance ≤ 5) × (m ≤ 64) × (length (now wh) ≡ m * rowBits instance) ⌝ }
     ensures { λ r. ⌜ ((idx : List ℕ) → Rows instance m idx (now (wh .entry)) → r ≡ length (rowsNet chain instance idx (now (wh .entry)) m .gates)) ⌝ }
     ensures { λ r. ⌜ r ≤ 178432 ⌝ }
 {
-    filter::count_ones(wh) + (m as usize) * bit_gates(instance)
+    (count_ones(wh) as usize) + (m as usize) * bit_gates(instance)
 }
 
 // Header, gates, outputs. xs and wires are just the room for a row's wires and for the outputs.

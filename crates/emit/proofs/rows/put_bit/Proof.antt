@@ -4,22 +4,37 @@ use mathlib.Core.Path.{ap, _∙_}
 use mathlib.Core.List.{List}
 use native.Mathlib.Omega.{arith}
 use lib.ListN.{getD}
-use Rattle.emit.proofs.RowsBit.{bit-wrote}
+use Rattle.emit.proofs.RowsBit.{bit-wrote, bit-bare}
 use Rattle.wiring.proofs.Whitening.{vars-length}
-use Rattle.emit.proofs.RowsVariables.{nots-few, vars-at}
+use Rattle.instance.proofs.Above.{above-zero}
+use Rattle.emit.proofs.RowsVariables.{nots-few, vars-at, bare}
 use Rattle.emit.proofs.RowsTable.{large}
 use Rattle.emit.proofs.rows.put_bit.Statement.{statement}
 use Rattle.emit.proofs.rows.put_bit.Tie as tie
 
-bit-gates-requires : tie.Need-bit-gates-requires
-bit-gates-requires c κs = search needs
+joined-requires : tie.Need-joined-requires
+joined-requires c κs = search needs
+
+put-filtered-requires : tie.Need-put-filtered-requires
+put-filtered-requires c κs = search needs
+
+same-length : tie.Need-same-length
+same-length c = search needs
+
+returns : tie.Need-returns
+returns c =
+    let f = c .before .before in
+    let t = f .before .before in
+    let s = t .before .before .before .before .before .before in
+    let z = above-zero (s .args .ws .now) _ _ (t .before .joined .ensures) (t .if1 .taken) in
+    bit-bare _ _ _ _ _ (s .pre .0 .0) (s .pre .0 .1) (vars-length _ _ _ ∙ s .pre .0 .2) _ _ _ _ (bare _ _ _ z) (f .put-filtered .ensures)
 
 put-vars-requires : tie.Need-put-vars-requires
 put-vars-requires c κs =
-    let s = c .before .before .before .before .before .before .before in
+    let s = c .before .before .before .before .before .before .before .before in
     let q = large (s .args .instance) (s .pre .0 .0) (s .pre .0 .1) in
     let f = nots-few (s .args .row .now) (s .args .ws .now) in
-    ((omega arith, omega arith), (omega (arith, q .row-least), omega (arith, q .row-most, q .bit-most)))
+    ((omega arith, omega arith), (omega (arith, q .row-least, q .row-most), omega (arith, q .row-most, q .bit-most)))
 
 sub-i : tie.Need-sub-i
 sub-i c = search needs
@@ -33,9 +48,9 @@ mul-i c = search needs
 add-i : tie.Need-add-i
 add-i c = search needs
 
-put-filter-requires : tie.Need-put-filter-requires
-put-filter-requires c κs =
-    let s = c .before .before .before .before .before .before .before .before .before .before .before .before .before .before in
+put-filtered-requires-2 : tie.Need-put-filtered-requires-2
+put-filtered-requires-2 c κs =
+    let s = c .before .before .before .before .before .before .before .before .before .before .before .before .before .before .before in
     let q = large (s .args .instance) (s .pre .0 .0) (s .pre .0 .1) in
     let f = nots-few (s .args .row .now) (s .args .ws .now) in
     let v = c .before .before .before .before .before .before .put-vars .ensures in
@@ -43,81 +58,34 @@ put-filter-requires c κs =
     let e = ap (λ (l : List ℕ). getD l 81 0) (v .1 .1) in
     ((s .pre .0 .0, s .pre .0 .1, omega arith, omega (arith, v .0), omega (arith, v .0, q .row-most, q .bit-most)), omega (arith, v .0))
 
-sub-put-gate : tie.Need-sub-put-gate
-sub-put-gate c =
-    let s = c .before .before .before .before .before .before .before .before .before .before .before .before .before .before .before .before .before .before in
-    let q = large (s .args .instance) (s .pre .0 .0) (s .pre .0 .1) in
-    let f = nots-few (s .args .row .now) (s .args .ws .now) in
-    let k = c .before .before .before .before .before .before .before .before .before .before .before .before .before .bit-gates .ensures .0 in
-    omega (arith, q .row-least, q .row-most)
-
-mul-put-gate : tie.Need-mul-put-gate
-mul-put-gate c = search needs
-
-add-put-gate : tie.Need-add-put-gate
-add-put-gate c = search needs
-
-put-gate-requires : tie.Need-put-gate-requires
-put-gate-requires c κs =
-    let s = c .before .before .before .before .before .before .before .before .before .before .before .before .before .before .before .before .before .before in
-    let q = large (s .args .instance) (s .pre .0 .0) (s .pre .0 .1) in
-    let f = nots-few (s .args .row .now) (s .args .ws .now) in
-    let k = c .before .before .before .before .before .before .before .before .before .before .before .before .before .bit-gates .ensures .0 in
-    omega (arith, q .row-least, q .row-most)
-
-sub-result : tie.Need-sub-result
-sub-result c =
-    let s = c .before .before .before .before .before .before .before .before .before .before .before .before .before .before .before .before .before .before .before .before .before in
-    let q = large (s .args .instance) (s .pre .0 .0) (s .pre .0 .1) in
-    let f = nots-few (s .args .row .now) (s .args .ws .now) in
-    let k = c .before .before .before .before .before .before .before .before .before .before .before .before .before .before .before .before .bit-gates .ensures .0 in
-    omega (arith, q .row-least, q .row-most)
-
-cast-result : tie.Need-cast-result
-cast-result c = search needs
-
-add-result : tie.Need-add-result
-add-result c =
-    let s = c .before .before .before .before .before .before .before .before .before .before .before .before .before .before .before .before .before .before .before .before .before in
-    let q = large (s .args .instance) (s .pre .0 .0) (s .pre .0 .1) in
-    let f = nots-few (s .args .row .now) (s .args .ws .now) in
-    let k = c .before .before .before .before .before .before .before .before .before .before .before .before .before .before .before .before .bit-gates .ensures .0 in
-    omega (arith, q .row-most, q .bit-most)
-
-same-length : tie.Need-same-length
-same-length c = search needs
-
 same-length-2 : tie.Need-same-length-2
 same-length-2 c = search needs
 
-returns : tie.Need-returns
-returns c =
-    let g = c .before .before in
-    let h = g .before .before .before .before in
-    let v = h .before .before .before .before .before .before .before in
-    let b = v .before .before .before in
-    let s = b .before .before .before .before .before in
-    bit-wrote _ _ _ _ _ (s .pre .0 .0) (s .pre .0 .1) (vars-length _ _ _ ∙ s .pre .0 .2) _ _ _ _ _ _ _ _ _ (v .put-vars .ensures .1 .0) (v .put-vars .ensures .0) (v .put-vars .ensures .1 .1)
-    (h .put-filter .ensures) (b .bit-gates .ensures .0) (g .put-gate .ensures)
+same-length-3 : tie.Need-same-length-3
+same-length-3 c = search needs
+
+returns-2 : tie.Need-returns-2
+returns-2 c =
+    let f = c .before .before in
+    let v = f .before .before .before .before .before .before .before in
+    let s = v .before .before .before .before .before .before .before .before .before in
+    bit-wrote _ _ _ _ _ (s .pre .0 .0) (s .pre .0 .1) (vars-length _ _ _ ∙ s .pre .0 .2) _ _ _ _ _ _ _ (v .put-vars .ensures .1 .0) (v .put-vars .ensures .0) (v .put-vars .ensures .1 .1)
+    (f .put-filtered2 .ensures)
 
 pub put-bit-spec : {M : Type 1} → statement M
 put-bit-spec =
     tie.close
     (tie.spec
-    bit-gates-requires
+    joined-requires
+    put-filtered-requires
+    same-length
+    returns
     put-vars-requires
     sub-i
     cast-i
     mul-i
     add-i
-    put-filter-requires
-    sub-put-gate
-    mul-put-gate
-    add-put-gate
-    put-gate-requires
-    sub-result
-    cast-result
-    add-result
-    same-length
+    put-filtered-requires-2
     same-length-2
-    returns)
+    same-length-3
+    returns-2)

@@ -2,7 +2,7 @@ use Prim.Native.Nat.{_-_}
 use mathlib.Core.Path.{refl, sym, _∙_}
 use native.Mathlib.Omega.{arith}
 use lib.ListN.{length}
-use Rattle.emit.proofs.RowsBits.{Bitting, turn, bitting-start, bitting-turn, bitting-end, last-bound}
+use Rattle.emit.proofs.RowsBits.{Bitting, Turn, Bound, turn, bitting-start, bitting-turn, bitting-end, last-bound}
 use Rattle.emit.proofs.rows.put_bits.Statement.{statement}
 use Rattle.emit.proofs.rows.put_bits.Tie as tie
 
@@ -12,95 +12,55 @@ Inv-loop out₀ at instance key next idx wh xs₀ wires₀ i₀ wire₀ start₀
 abbrev μ-loop : tie.MeasureT-loop
 μ-loop out₀ at instance key next idx wh xs₀ wires₀ i₀ wire₀ start₀ j₀ out xs wires i wire start j = length wires₀ - j
 
+turn-at : (l : tie.In-loop Inv-loop μ-loop) → let a = l .before .before .before .before .before .before .before .args in let v = l .before .loop in Turn (a .instance) (a .idx .now) (a .wh .now) (v .out) (v .xs) (v .i) (v .wire) (v .start) (v .j)
+turn-at l =
+    let p = l .before .before .before .before .before .before .before .pre .0 in
+    turn _ _ _ _ _ _ _ (p .0) (omega arith) (p .4) _ _ _ _ _ _ _ (l .before .loop .inv) (omega arith)
+
+bound-at : (b : tie.After-put-bit Inv-loop μ-loop) → let v = b .before .before .before .before .before .before .loop in Bound (v .out) (v .i) (v .wire) (b .put-bit .result)
+bound-at b =
+    let l = b .before .before .before .before .before in
+    let p = l .before .before .before .before .before .before .before .pre .0 in
+    last-bound _ _ _ _ _ _ _ (p .0) (omega arith) (p .4) _ _ _ _ _ _ _ (l .before .loop .inv) (omega arith) _ (p .1) _ _ (b .put-bit .ensures)
+
 loop-holds : tie.Need-loop-holds Inv-loop μ-loop
 loop-holds c = let s = c .before .before .before .before .before in bitting-start _ _ _ _ _ _ _ (s .pre .0 .0) (omega arith) (s .pre .0 .4) _ _ (s .pre .0 .2) refl (s .pre .1)
 
 add-end : tie.Need-add-end Inv-loop μ-loop
-add-end c =
-    let l = c in
-    let s = l .before .before .before .before .before .before .before in
-    let p = s .pre .0 in
-    let t = turn _ _ _ _ _ _ _ (p .0) (omega arith) (p .4) _ _ _ _ _ _ _ (l .before .loop .inv) (omega arith) in
-    omega (arith, t .rowMost, t .ends)
+add-end c = omega (arith, turn-at c .rowMost, turn-at c .ends)
 
 cast-rec : tie.Need-cast-rec Inv-loop μ-loop
-cast-rec c =
-    let l = c in
-    let s = l .before .before .before .before .before .before .before in
-    let p = s .pre .0 in
-    let t = turn _ _ _ _ _ _ _ (p .0) (omega arith) (p .4) _ _ _ _ _ _ _ (l .before .loop .inv) (omega arith) in
-    omega (arith, t .count)
+cast-rec c = omega (arith, turn-at c .count)
 
 add-rec : tie.Need-add-rec Inv-loop μ-loop
-add-rec c =
-    let l = c in
-    let s = l .before .before .before .before .before .before .before in
-    let p = s .pre .0 in
-    let t = turn _ _ _ _ _ _ _ (p .0) (omega arith) (p .4) _ _ _ _ _ _ _ (l .before .loop .inv) (omega arith) in
-    omega (arith, t .count, t .keyMost)
+add-rec c = omega (arith, turn-at c .count, turn-at c .keyMost)
 
 mul-put-bit : tie.Need-mul-put-bit Inv-loop μ-loop
-mul-put-bit c =
-    let l = c .before in
-    let s = l .before .before .before .before .before .before .before in
-    let p = s .pre .0 in
-    let t = turn _ _ _ _ _ _ _ (p .0) (omega arith) (p .4) _ _ _ _ _ _ _ (l .before .loop .inv) (omega arith) in
-    omega arith
+mul-put-bit c = omega (arith, turn-at (c .before) .ends)
 
 sub-put-bit : tie.Need-sub-put-bit Inv-loop μ-loop
-sub-put-bit c =
-    let l = c .before in
-    let s = l .before .before .before .before .before .before .before in
-    let p = s .pre .0 in
-    let t = turn _ _ _ _ _ _ _ (p .0) (omega arith) (p .4) _ _ _ _ _ _ _ (l .before .loop .inv) (omega arith) in
-    omega arith
+sub-put-bit c = omega (arith, turn-at (c .before) .ends)
 
 part-put-bit-start : tie.Need-part-put-bit-start Inv-loop μ-loop
-part-put-bit-start c =
-    let l = c .before in
-    let s = l .before .before .before .before .before .before .before in
-    let p = s .pre .0 in
-    let t = turn _ _ _ _ _ _ _ (p .0) (omega arith) (p .4) _ _ _ _ _ _ _ (l .before .loop .inv) (omega arith) in
-    omega (arith, t .ends)
+part-put-bit-start c = omega (arith, turn-at (c .before) .ends)
 
 part-put-bit-end : tie.Need-part-put-bit-end Inv-loop μ-loop
-part-put-bit-end c =
-    let l = c .before in
-    let s = l .before .before .before .before .before .before .before in
-    let p = s .pre .0 in
-    let t = turn _ _ _ _ _ _ _ (p .0) (omega arith) (p .4) _ _ _ _ _ _ _ (l .before .loop .inv) (omega arith) in
-    omega (arith, t .ends)
+part-put-bit-end c = omega (arith, turn-at (c .before) .ends)
 
 sub-put-bit-2 : tie.Need-sub-put-bit-2 Inv-loop μ-loop
-sub-put-bit-2 c =
-    let l = c .before .before in
-    let s = l .before .before .before .before .before .before .before in
-    let p = s .pre .0 in
-    let t = turn _ _ _ _ _ _ _ (p .0) (omega arith) (p .4) _ _ _ _ _ _ _ (l .before .loop .inv) (omega arith) in
-    omega arith
+sub-put-bit-2 c = omega (arith, turn-at (c .before .before) .ends)
 
 part-put-bit-start-2 : tie.Need-part-put-bit-start-2 Inv-loop μ-loop
-part-put-bit-start-2 c =
-    let l = c .before .before in
-    let s = l .before .before .before .before .before .before .before in
-    let p = s .pre .0 in
-    let t = turn _ _ _ _ _ _ _ (p .0) (omega arith) (p .4) _ _ _ _ _ _ _ (l .before .loop .inv) (omega arith) in
-    omega (arith, t .ends-wh)
+part-put-bit-start-2 c = omega (arith, turn-at (c .before .before) .ends-wh)
 
 part-put-bit-end-2 : tie.Need-part-put-bit-end-2 Inv-loop μ-loop
-part-put-bit-end-2 c =
-    let l = c .before .before in
-    let s = l .before .before .before .before .before .before .before in
-    let p = s .pre .0 in
-    let t = turn _ _ _ _ _ _ _ (p .0) (omega arith) (p .4) _ _ _ _ _ _ _ (l .before .loop .inv) (omega arith) in
-    omega (arith, t .ends-wh)
+part-put-bit-end-2 c = omega (arith, turn-at (c .before .before) .ends-wh)
 
 put-bit-requires : tie.Need-put-bit-requires Inv-loop μ-loop
 put-bit-requires c κs =
     let l = c .before .before .before .before in
-    let s = l .before .before .before .before .before .before .before in
-    let p = s .pre .0 in
-    let t = turn _ _ _ _ _ _ _ (p .0) (omega arith) (p .4) _ _ _ _ _ _ _ (l .before .loop .inv) (omega arith) in
+    let p = l .before .before .before .before .before .before .before .pre .0 in
+    let t = turn-at l in
     ((p .0 .low, p .0 .high, t .row, t .white ∙ sym (t .row), omega (arith, t .row)), ((t .below, t .small), t .space))
 
 mul-wires : tie.Need-mul-wires Inv-loop μ-loop
@@ -112,62 +72,32 @@ slice-write-wires c = omega arith
 add-i : tie.Need-add-i Inv-loop μ-loop
 add-i c =
     let b = c .before .before .before .before in
-    let l = b .before .before .before .before .before in
-    let s = l .before .before .before .before .before .before .before in
-    let p = s .pre .0 in
-    let t = turn _ _ _ _ _ _ _ (p .0) (omega arith) (p .4) _ _ _ _ _ _ _ (l .before .loop .inv) (omega arith) in
-    let k = last-bound _ _ _ _ _ _ _ (p .0) (omega arith) (p .4) _ _ _ _ _ _ _ (l .before .loop .inv) (omega arith) _ (p .1) _ _ (b .put-bit .ensures) in
-    omega (arith, k .less, t .small)
+    omega (arith, bound-at b .less, turn-at (b .before .before .before .before .before) .small)
 
 sub-i : tie.Need-sub-i Inv-loop μ-loop
 sub-i c =
     let b = c .before .before .before .before in
-    let l = b .before .before .before .before .before in
-    let s = l .before .before .before .before .before .before .before in
-    let p = s .pre .0 in
-    let t = turn _ _ _ _ _ _ _ (p .0) (omega arith) (p .4) _ _ _ _ _ _ _ (l .before .loop .inv) (omega arith) in
-    let k = last-bound _ _ _ _ _ _ _ (p .0) (omega arith) (p .4) _ _ _ _ _ _ _ (l .before .loop .inv) (omega arith) _ (p .1) _ _ (b .put-bit .ensures) in
-    omega (arith, k .more)
+    omega (arith, bound-at b .more)
 
 cast-i : tie.Need-cast-i Inv-loop μ-loop
 cast-i c =
     let b = c .before .before .before .before in
-    let l = b .before .before .before .before .before in
-    let s = l .before .before .before .before .before .before .before in
-    let p = s .pre .0 in
-    let t = turn _ _ _ _ _ _ _ (p .0) (omega arith) (p .4) _ _ _ _ _ _ _ (l .before .loop .inv) (omega arith) in
-    let k = last-bound _ _ _ _ _ _ _ (p .0) (omega arith) (p .4) _ _ _ _ _ _ _ (l .before .loop .inv) (omega arith) _ (p .1) _ _ (b .put-bit .ensures) in
-    omega (arith, k .less, t .small)
+    omega (arith, bound-at b .less, turn-at (b .before .before .before .before .before) .small)
 
 mul-i : tie.Need-mul-i Inv-loop μ-loop
 mul-i c =
     let b = c .before .before .before .before in
-    let l = b .before .before .before .before .before in
-    let s = l .before .before .before .before .before .before .before in
-    let p = s .pre .0 in
-    let t = turn _ _ _ _ _ _ _ (p .0) (omega arith) (p .4) _ _ _ _ _ _ _ (l .before .loop .inv) (omega arith) in
-    let k = last-bound _ _ _ _ _ _ _ (p .0) (omega arith) (p .4) _ _ _ _ _ _ _ (l .before .loop .inv) (omega arith) _ (p .1) _ _ (b .put-bit .ensures) in
-    omega (arith, k .less, t .small)
+    omega (arith, bound-at b .less, turn-at (b .before .before .before .before .before) .small)
 
 add-i-2 : tie.Need-add-i-2 Inv-loop μ-loop
 add-i-2 c =
     let b = c .before .before .before .before in
-    let l = b .before .before .before .before .before in
-    let s = l .before .before .before .before .before .before .before in
-    let p = s .pre .0 in
-    let t = turn _ _ _ _ _ _ _ (p .0) (omega arith) (p .4) _ _ _ _ _ _ _ (l .before .loop .inv) (omega arith) in
-    let k = last-bound _ _ _ _ _ _ _ (p .0) (omega arith) (p .4) _ _ _ _ _ _ _ (l .before .loop .inv) (omega arith) _ (p .1) _ _ (b .put-bit .ensures) in
-    omega (arith, k .space)
+    omega (arith, bound-at b .space)
 
 add-wire : tie.Need-add-wire Inv-loop μ-loop
 add-wire c =
     let b = c .before .before .before .before in
-    let l = b .before .before .before .before .before in
-    let s = l .before .before .before .before .before .before .before in
-    let p = s .pre .0 in
-    let t = turn _ _ _ _ _ _ _ (p .0) (omega arith) (p .4) _ _ _ _ _ _ _ (l .before .loop .inv) (omega arith) in
-    let k = last-bound _ _ _ _ _ _ _ (p .0) (omega arith) (p .4) _ _ _ _ _ _ _ (l .before .loop .inv) (omega arith) _ (p .1) _ _ (b .put-bit .ensures) in
-    omega (arith, k .less, t .small)
+    omega (arith, bound-at b .less, turn-at (b .before .before .before .before .before) .small)
 
 add-j : tie.Need-add-j Inv-loop μ-loop
 add-j c = omega arith

@@ -5,7 +5,7 @@ use native.Mathlib.Omega.{arith}
 use borrow.Author.Needs.{needs}
 use lib.ListN.{length}
 use lib.ListN.{length-take, length-drop}
-use Rattle.emit.proofs.RowsSum.{Onward, here, summing-first, summing-start, summing-turn, summing-end}
+use Rattle.emit.proofs.RowsSum.{Onward, Fitting, fitting, as-long, summing-first, summing-start, summing-turn, summing-end}
 use Rattle.emit.proofs.rows.put_monomials.Statement.{statement}
 use Rattle.emit.proofs.rows.put_monomials.Tie as tie
 
@@ -14,6 +14,9 @@ Inv-loop out₀ at next degrees xs first acc₀ used₀ j₀ out acc used j = On
 
 abbrev μ-loop : tie.MeasureT-loop
 μ-loop out₀ at next degrees xs first acc₀ used₀ j₀ out acc used j = length degrees - j
+
+fitting-at : (l : tie.In-loop Inv-loop μ-loop) → let a = l .before .before .before .before .before .before .before .before .before .before .before .before .args in let v = l .before .loop in Fitting (a .degrees .now) (a .xs .now) (v .used) (v .j)
+fitting-at l = fitting _ _ _ _ _ _ _ _ _ _ _ (l .before .loop .inv) (l .loop-test .taken)
 
 shared-slice-read-wide : tie.Need-shared-slice-read-wide Inv-loop μ-loop
 shared-slice-read-wide c = omega arith
@@ -48,75 +51,42 @@ wide-requires-2 : tie.Need-wide-requires-2 Inv-loop μ-loop
 wide-requires-2 c κs = search needs
 
 add-end : tie.Need-add-end Inv-loop μ-loop
-add-end c =
-    let h = here _ _ _ _ _ _ _ _ _ _ _ (c .before .before .before .loop .inv) in
-    let f = h .next-fits (c .before .before .loop-test .taken) in
-    omega arith
+add-end c = let f = fitting-at (c .before .before) in omega arith
 
 sub-i : tie.Need-sub-i Inv-loop μ-loop
-sub-i c =
-    let h = here _ _ _ _ _ _ _ _ _ _ _ (c .before .before .before .loop .inv) in
-    let f = h .next-fits (c .before .before .loop-test .taken) in
-    omega arith
+sub-i c = let f = fitting-at (c .before .before) in omega arith
 
 mul-i : tie.Need-mul-i Inv-loop μ-loop
-mul-i c =
-    let h = here _ _ _ _ _ _ _ _ _ _ _ (c .before .before .before .loop .inv) in
-    let f = h .next-fits (c .before .before .loop-test .taken) in
-    omega arith
+mul-i c = let f = fitting-at (c .before .before) in omega arith
 
 add-i : tie.Need-add-i Inv-loop μ-loop
-add-i c =
-    let h = here _ _ _ _ _ _ _ _ _ _ _ (c .before .before .before .loop .inv) in
-    let f = h .next-fits (c .before .before .loop-test .taken) in
-    omega arith
+add-i c = let f = fitting-at (c .before .before) in omega arith
 
 sub-wire : tie.Need-sub-wire Inv-loop μ-loop
-sub-wire c =
-    let h = here _ _ _ _ _ _ _ _ _ _ _ (c .before .before .before .loop .inv) in
-    let f = h .next-fits (c .before .before .loop-test .taken) in
-    omega arith
+sub-wire c = let f = fitting-at (c .before .before) in omega arith
 
 cast-wire : tie.Need-cast-wire Inv-loop μ-loop
-cast-wire c =
-    let h = here _ _ _ _ _ _ _ _ _ _ _ (c .before .before .before .loop .inv) in
-    let f = h .next-fits (c .before .before .loop-test .taken) in
-    omega arith
+cast-wire c = let f = fitting-at (c .before .before) in omega arith
 
 add-wire : tie.Need-add-wire Inv-loop μ-loop
-add-wire c =
-    let h = here _ _ _ _ _ _ _ _ _ _ _ (c .before .before .before .loop .inv) in
-    let f = h .next-fits (c .before .before .loop-test .taken) in
-    omega arith
+add-wire c = let f = fitting-at (c .before .before) in omega arith
 
 mul-put-term : tie.Need-mul-put-term Inv-loop μ-loop
-mul-put-term c =
-    let h = here _ _ _ _ _ _ _ _ _ _ _ (c .before .before .before .before .loop .inv) in
-    let f = h .next-fits (c .before .before .before .loop-test .taken) in
-    omega arith
+mul-put-term c = let f = fitting-at (c .before .before .before) in omega arith
 
 sub-put-term : tie.Need-sub-put-term Inv-loop μ-loop
-sub-put-term c =
-    let h = here _ _ _ _ _ _ _ _ _ _ _ (c .before .before .before .before .loop .inv) in
-    let f = h .next-fits (c .before .before .before .loop-test .taken) in
-    omega arith
+sub-put-term c = let f = fitting-at (c .before .before .before) in omega arith
 
 part-put-term-start : tie.Need-part-put-term-start Inv-loop μ-loop
-part-put-term-start c =
-    let h = here _ _ _ _ _ _ _ _ _ _ _ (c .before .before .before .before .loop .inv) in
-    let f = h .next-fits (c .before .before .before .loop-test .taken) in
-    omega arith
+part-put-term-start c = let f = fitting-at (c .before .before .before) in omega arith
 
 part-put-term-end : tie.Need-part-put-term-end Inv-loop μ-loop
-part-put-term-end c =
-    let h = here _ _ _ _ _ _ _ _ _ _ _ (c .before .before .before .before .loop .inv) in
-    let f = h .next-fits (c .before .before .before .loop-test .taken) in
-    omega arith
+part-put-term-end c = let f = fitting-at (c .before .before .before) in omega arith
 
 put-term-requires : tie.Need-put-term-requires Inv-loop μ-loop
 put-term-requires c κs =
-    let h = here _ _ _ _ _ _ _ _ _ _ _ (c .before .before .before .before .before .loop .inv) in
-    let f = h .next-fits (c .before .before .before .before .loop-test .taken) in
+    let f = fitting-at (c .before .before .before .before) in
+    let o = as-long _ _ _ _ _ _ _ _ _ _ _ (c .before .before .before .before .before .loop .inv) in
     (simp (length-take, length-drop) (omega arith), simp (length-take, length-drop) (omega arith), simp (length-take, length-drop) (omega arith))
 
 add-j : tie.Need-add-j Inv-loop μ-loop
@@ -134,7 +104,7 @@ loop-again c =
     (v .0, λ o x. summing-turn o _ _ _ _ _ _ _ _ (v .1 o x) _ _ _ (b .loop-test .taken) (w .wide2 .ensures) (t .put-term .ensures))
 
 same-length : tie.Need-same-length Inv-loop μ-loop
-same-length c = (here _ _ _ _ _ _ _ _ _ _ _ (c .before .loop .inv)) .outLong ∙ c .before .before .before .before .put-chain .kept .0
+same-length c = as-long _ _ _ _ _ _ _ _ _ _ _ (c .before .loop .inv) ∙ c .before .before .before .before .put-chain .kept .0
 
 returns : tie.Need-returns Inv-loop μ-loop
 returns c =

@@ -39,7 +39,7 @@ slice-write-xs c = omega arith
 put-not-requires : tie.Need-put-not-requires Inv-loop μ-loop
 put-not-requires c κs =
     let b = c .before .before .before .before in
-    going-room _ _ _ _ _ _ _ _ _ _ (b .before .loop .inv) (b .loop-test .taken)
+    going-room _ _ _ _ _ _ _ _ _ _ (b .before .loop .inv)
 
 cast-i : tie.Need-cast-i Inv-loop μ-loop
 cast-i c = omega arith

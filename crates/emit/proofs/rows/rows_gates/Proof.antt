@@ -1,11 +1,14 @@
 use borrow.Author.Needs.{needs}
 use native.Mathlib.Omega.{arith}
-use Rattle.emit.proofs.RowsNet.{count-is, count-small}
+use Rattle.emit.proofs.RowsNet.{count-is, count-small, white-small}
 use Rattle.emit.proofs.rows.rows_gates.Statement.{statement}
 use Rattle.emit.proofs.rows.rows_gates.Tie as tie
 
 count-ones-requires : tie.Need-count-ones-requires
-count-ones-requires c κs = search needs
+count-ones-requires c κs = let s = c .before in white-small _ _ (s .args .wh .now) (s .pre .2) (s .pre .3)
+
+cast-result : tie.Need-cast-result
+cast-result c = search needs
 
 bit-gates-requires : tie.Need-bit-gates-requires
 bit-gates-requires c κs = search needs
@@ -39,4 +42,4 @@ returns c =
 
 pub rows-gates-spec : {M : Type 1} → statement M
 rows-gates-spec =
-    tie.close (tie.spec count-ones-requires bit-gates-requires mul-result add-result returns)
+    tie.close (tie.spec count-ones-requires cast-result bit-gates-requires mul-result add-result returns)
