@@ -3,7 +3,7 @@
 
 use crate::file::{self, GATE_BYTES, HEADER_BYTES, OUTPUT_BYTES};
 use crate::lent::{show, Lent};
-use crate::netlist::{self, Answer, Metering, HEADER};
+use crate::netlist::{self, Answer, Level, Metering, HEADER};
 use crate::probe;
 
 /// What an evaluation left behind; the other calls alike.
@@ -16,8 +16,7 @@ pub struct Evaluated {
 pub struct Metered {
     pub metering: Metering,
     pub depths: Vec<u32>,
-    pub ands: Vec<u32>,
-    pub muxes: Vec<u32>,
+    pub levels: Vec<Level>,
 }
 
 pub struct Glued {
@@ -84,25 +83,19 @@ pub fn evaluate(net: &[u32], inputs: &[u8], values: &[u8], outputs: &[u8]) -> Ev
     }
 }
 
-pub fn meter(net: &[u32], depths: &[u32], ands: &[u32], muxes: &[u32]) -> Metered {
+pub fn meter(net: &[u32], depths: &[u32], levels: &[Level]) -> Metered {
     let case = || {
         format!(
-            "metering of {}, {} depths, {} levels of AND, {} of MUX",
+            "metering of {}, {} depths, {} levels",
             show(net),
             depths.len(),
-            ands.len(),
-            muxes.len()
+            levels.len()
         )
     };
     let mut net_lent = Lent::new(net);
-    let (mut depths, mut ands, mut muxes) = (Lent::new(depths), Lent::new(ands), Lent::new(muxes));
-    let library = probe::meter(
-        net_lent.library(),
-        depths.library(),
-        ands.library(),
-        muxes.library(),
-    );
-    let rust = netlist::meter(net_lent.rust(), depths.rust(), ands.rust(), muxes.rust());
+    let (mut depths, mut levels) = (Lent::new(depths), Lent::new(levels));
+    let library = probe::meter(net_lent.library(), depths.library(), levels.library());
+    let rust = netlist::meter(net_lent.rust(), depths.rust(), levels.rust());
     assert_eq!(library, rust, "library, rust; {}", case());
     let done = rust.answer == Answer::DONE;
     if !done {
@@ -116,7 +109,7 @@ pub fn meter(net: &[u32], depths: &[u32], ands: &[u32], muxes: &[u32]) -> Metere
     };
     net_lent.settle(0, "words", &case);
     let depths = depths.settle(wires, "depths", &case);
-    let levels = if done {
+    let written = if done {
         1 + depths[net[0] as usize..wires].iter().max().unwrap_or(&0)
     } else {
         0
@@ -124,8 +117,7 @@ pub fn meter(net: &[u32], depths: &[u32], ands: &[u32], muxes: &[u32]) -> Metere
     Metered {
         metering: rust,
         depths,
-        ands: ands.settle(levels as usize, "AND levels", &case),
-        muxes: muxes.settle(levels as usize, "MUX levels", &case),
+        levels: levels.settle(written as usize, "levels", &case),
     }
 }
 
@@ -177,9 +169,9 @@ pub fn run(net: &[u32], inputs: &[u8]) -> Vec<u8> {
 
 /// Metering with room for whatever depth.
 pub fn metered(net: &[u32]) -> Metering {
-    let levels = vec![3; net[1] as usize + 1];
+    let levels = vec![Level { ands: 3, muxes: 3 }; net[1] as usize + 1];
     let depths = vec![3; (net[0] + net[1]) as usize];
-    let metering = meter(net, &depths, &levels, &levels).metering;
+    let metering = meter(net, &depths, &levels).metering;
     assert_eq!(metering.answer, Answer::DONE);
     metering
 }

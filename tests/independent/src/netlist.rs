@@ -72,6 +72,18 @@ pub struct Metering {
     pub multiplications: u32,
 }
 
+/// How many AND gates and MUX gates have one depth.
+#[repr(C)]
+#[derive(Clone, Copy, Debug, PartialEq, Eq)]
+pub struct Level {
+    pub ands: u32,
+    pub muxes: u32,
+}
+
+impl Level {
+    pub const EMPTY: Level = Level { ands: 0, muxes: 0 };
+}
+
 /// How many operands each kind uses, by its code.
 pub const ARITY: [usize; 6] = [0, 0, 1, 2, 2, 3];
 
@@ -208,24 +220,19 @@ fn try_evaluate(
 }
 
 /// Measures `net` (list 1): the depth of every wire goes to the front of
-/// `depths` (2); how many AND and MUX gates have each depth goes to the fronts
-/// of `ands` and `muxes` (both list 3).
+/// `depths` (2); how many AND and MUX gates have each depth goes to the front
+/// of `levels` (3).
 ///
-/// The depths are filled even where the lists of levels are too short.
-pub fn meter(net: &[u32], depths: &mut [u32], ands: &mut [u32], muxes: &mut [u32]) -> Metering {
-    try_meter(net, depths, ands, muxes).unwrap_or_else(|answer| Metering {
+/// The depths are filled even where the list of levels is too short.
+pub fn meter(net: &[u32], depths: &mut [u32], levels: &mut [Level]) -> Metering {
+    try_meter(net, depths, levels).unwrap_or_else(|answer| Metering {
         answer,
         depth: 0,
         multiplications: 0,
     })
 }
 
-fn try_meter(
-    net: &[u32],
-    depths: &mut [u32],
-    ands: &mut [u32],
-    muxes: &mut [u32],
-) -> Result<Metering, Answer> {
+fn try_meter(net: &[u32], depths: &mut [u32], levels: &mut [Level]) -> Result<Metering, Answer> {
     let net = Netlist::lent(net, 1)?;
     let room = depths.len();
     let depths = depths
@@ -246,17 +253,16 @@ fn try_meter(
         multiplications += multiplies;
     }
 
-    let levels = deepest as usize + 1;
-    let room = ands.len();
-    let ands = ands.get_mut(..levels).ok_or(Answer::too_short(3, room))?;
-    let room = muxes.len();
-    let muxes = muxes.get_mut(..levels).ok_or(Answer::too_short(3, room))?;
+    let room = levels.len();
+    let levels = levels
+        .get_mut(..=deepest as usize)
+        .ok_or(Answer::too_short(3, room))?;
 
-    ands.fill(0);
-    muxes.fill(0);
+    levels.fill(Level::EMPTY);
     for (gate, &depth) in net.gates.iter().zip(&depths[net.inputs..]) {
-        ands[depth as usize] += u32::from(gate[0] == AND);
-        muxes[depth as usize] += u32::from(gate[0] == MUX);
+        let level = &mut levels[depth as usize];
+        level.ands += u32::from(gate[0] == AND);
+        level.muxes += u32::from(gate[0] == MUX);
     }
     let depth = net.outputs.iter().map(|&wire| depths[wire as usize]).max();
     Ok(Metering {

@@ -3,7 +3,7 @@
 #![forbid(unsafe_code)]
 
 use crate::emission;
-use crate::netlist::{self, Answer, Metering, ARITY, HEADER};
+use crate::netlist::{self, Answer, Level, Metering, ARITY, HEADER};
 use std::fmt::Write;
 
 /// The kinds' names, by their codes.
@@ -47,12 +47,12 @@ fn threshold(d: u32, n: u32) -> Option<String> {
     let [inputs, gates, outputs] = [words[0], words[1], words[2]].map(|count| count as usize);
     words.truncate(HEADER + 4 * gates + outputs);
     let mut depths = vec![0; inputs + gates];
-    let (mut ands, mut muxes) = (vec![0; gates + 1], vec![0; gates + 1]);
+    let mut levels = vec![Level::EMPTY; gates + 1];
     let Metering {
         depth,
         multiplications,
         ..
-    } = netlist::meter(&words, &mut depths, &mut ands, &mut muxes);
+    } = netlist::meter(&words, &mut depths, &mut levels);
 
     let mut text = format!("T {d} {n}\n");
     let mut line = |line: std::fmt::Arguments| writeln!(text, "{line}").expect("there is room");

@@ -1,7 +1,7 @@
 //! The library under test, through its C interface: a list goes over as its
 //! first place and its length.
 
-use crate::netlist::{Answer, Metering};
+use crate::netlist::{Answer, Level, Metering};
 use std::mem::MaybeUninit;
 
 #[repr(C)]
@@ -44,10 +44,8 @@ extern "C" {
         net_length: usize,
         depths: *mut u32,
         depths_length: usize,
-        ands: *mut u32,
-        ands_length: usize,
-        muxes: *mut u32,
-        muxes_length: usize,
+        levels: *mut Level,
+        levels_length: usize,
     ) -> *mut RawMetering;
 
     fn probe_glue(
@@ -183,7 +181,7 @@ pub fn evaluate(net: &[u32], inputs: &[u8], values: &mut [u8], outputs: &mut [u8
     .into()
 }
 
-pub fn meter(net: &[u32], depths: &mut [u32], ands: &mut [u32], muxes: &mut [u32]) -> Metering {
+pub fn meter(net: &[u32], depths: &mut [u32], levels: &mut [Level]) -> Metering {
     let mut returned = MaybeUninit::uninit();
     // SAFETY: as in `check`; the library fills what is returned whole.
     let raw = unsafe {
@@ -193,10 +191,8 @@ pub fn meter(net: &[u32], depths: &mut [u32], ands: &mut [u32], muxes: &mut [u32
             net.len(),
             depths.as_mut_ptr(),
             depths.len(),
-            ands.as_mut_ptr(),
-            ands.len(),
-            muxes.as_mut_ptr(),
-            muxes.len(),
+            levels.as_mut_ptr(),
+            levels.len(),
         );
         returned.assume_init()
     };

@@ -1,6 +1,8 @@
 //! A small deterministic generator of numbers (splitmix64): the same seed
 //! gives the same cases everywhere.
 
+use crate::netlist::Level;
+
 pub struct Random(u64);
 
 impl Random {
@@ -78,6 +80,15 @@ impl Arbitrary for u8 {
 impl Arbitrary for u32 {
     fn arbitrary(random: &mut Random) -> Self {
         random.word()
+    }
+}
+
+impl Arbitrary for Level {
+    fn arbitrary(random: &mut Random) -> Self {
+        Level {
+            ands: random.word(),
+            muxes: random.word(),
+        }
     }
 }
 

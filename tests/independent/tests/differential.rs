@@ -7,8 +7,8 @@ use independent::both::{check, evaluate, glue, glued, glued_length, meter, meter
 use independent::cases::{self, Fault, Shape, FAULTS};
 use independent::lent::show;
 use independent::netlist::{
-    self, Answer, Metering, AND, HEADER, MAX_GATES, MAX_INPUTS, MAX_OUTPUTS, MUX, NOT, ONE, XOR,
-    ZERO,
+    self, Answer, Level, Metering, AND, HEADER, MAX_GATES, MAX_INPUTS, MAX_OUTPUTS, MUX, NOT, ONE,
+    XOR, ZERO,
 };
 use independent::probe;
 use independent::random::{bits, fill, seeded, Random};
@@ -17,6 +17,13 @@ use std::collections::BTreeMap;
 
 /// Random cases of each of the four calls.
 const CASES: usize = 250_000;
+
+/// A record of no account, as it may stand in a lent list.
+const STALE: Level = level(9, 8);
+
+const fn level(ands: u32, muxes: u32) -> Level {
+    Level { ands, muxes }
+}
 
 // ---- by hand ----
 
@@ -65,7 +72,7 @@ fn threshold_two_of_three() {
         assert_eq!(run(&THRESHOLD, &inputs), [output]);
     }
 
-    let result = meter(&THRESHOLD, &[9; 9], &[9; 4], &[9; 5]);
+    let result = meter(&THRESHOLD, &[9; 9], &[STALE; 4]);
     assert_eq!(
         result.metering,
         Metering {
@@ -75,8 +82,10 @@ fn threshold_two_of_three() {
         }
     );
     assert_eq!(result.depths, [0, 0, 0, 0, 1, 1, 2, 2, 9]);
-    assert_eq!(result.ands, [0, 1, 1, 9]);
-    assert_eq!(result.muxes, [0, 1, 0, 9, 9]);
+    assert_eq!(
+        result.levels,
+        [level(0, 0), level(1, 1), level(1, 0), STALE]
+    );
 }
 
 /// The first data wire of a MUX is taken at 0, the second at 1: exchanged,
@@ -123,11 +132,11 @@ fn every_kind_on_every_value() {
     ] {
         assert_eq!(run(&net, &inputs), outputs);
     }
-    let result = meter(&net, &[9; 9], &[9; 2], &[9; 2]);
+    let result = meter(&net, &[9; 9], &[STALE; 2]);
     assert_eq!(result.metering.depth, 1);
     assert_eq!(result.metering.multiplications, 2);
     assert_eq!(result.depths, [0, 0, 0, 0, 0, 0, 0, 1, 1]);
-    assert_eq!((result.ands, result.muxes), (vec![0, 1], vec![0, 1]));
+    assert_eq!(result.levels, [level(0, 0), level(1, 1)]);
 }
 
 #[test]
@@ -143,12 +152,12 @@ fn one_wire_pass_through() {
             (vec![bit, 9], vec![bit, 9])
         );
     }
-    let result = meter(&net, &[9; 2], &[9; 2], &[9; 2]);
+    let result = meter(&net, &[9; 2], &[STALE; 2]);
     assert_eq!(result.metering.answer, Answer::DONE);
     assert_eq!(result.metering.depth, 0);
     assert_eq!(result.metering.multiplications, 0);
     assert_eq!(result.depths, [0, 9]);
-    assert_eq!((result.ands, result.muxes), (vec![0, 9], vec![0, 9]));
+    assert_eq!(result.levels, [level(0, 0), STALE]);
 }
 
 /// Three words, no wire at all; one level is counted all the same.
@@ -160,10 +169,10 @@ fn empty_netlist() {
     assert_eq!(result.answer, Answer::DONE);
     let result = evaluate(&net, &[0], &[], &[]);
     assert_eq!(result.answer, refusal(3, 2, 1));
-    let result = meter(&net, &[], &[9], &[9]);
+    let result = meter(&net, &[], &[STALE]);
     assert_eq!(result.metering.answer, Answer::DONE);
-    assert_eq!((result.ands, result.muxes), (vec![0], vec![0]));
-    let result = meter(&net, &[], &[], &[9]);
+    assert_eq!(result.levels, [level(0, 0)]);
+    let result = meter(&net, &[], &[]);
     assert_eq!(result.metering.answer, refusal(8, 3, 0));
     let result = glue(&net, &net, &[9; 4]);
     assert_eq!(result.answer, Answer::DONE);
@@ -182,11 +191,11 @@ fn constants_alone() {
         assert_eq!(result.outputs, [0, stale]);
     }
     for stale in [0, 1, 77, u32::MAX] {
-        let result = meter(&net, &[stale; 4], &[stale; 2], &[stale; 2]);
+        let result = meter(&net, &[stale; 4], &[level(stale, stale); 2]);
         assert_eq!(result.metering.answer, Answer::DONE);
         assert_eq!(result.metering.depth, 1);
         assert_eq!(result.depths, [0, 0, 1, stale]);
-        assert_eq!((result.ands, result.muxes), (vec![0, 0], vec![0, 1]));
+        assert_eq!(result.levels, [level(0, 0), level(0, 1)]);
     }
 }
 
@@ -202,39 +211,41 @@ fn unused_deep_wire() {
             NOT, 0, 0, 0, //
             output,
         ];
-        let result = meter(&net, &[9; 4], &[9; 4], &[9; 4]);
+        let result = meter(&net, &[9; 4], &[STALE; 4]);
         assert_eq!(result.metering.answer, Answer::DONE);
         assert_eq!(result.metering.depth, depth);
         assert_eq!(result.metering.multiplications, 2);
         assert_eq!(result.depths, [0, 1, 2, 0]);
-        assert_eq!(result.ands, [0, 1, 1, 9]);
-        assert_eq!(result.muxes, [0, 0, 0, 9]);
+        assert_eq!(
+            result.levels,
+            [level(0, 0), level(1, 0), level(1, 0), STALE]
+        );
     }
     let no_outputs = [1, 1, 0, AND, 0, 0, 0];
-    let result = meter(&no_outputs, &[9; 2], &[9; 2], &[9; 2]);
+    let result = meter(&no_outputs, &[9; 2], &[STALE; 2]);
     assert_eq!(result.metering.depth, 0);
     assert_eq!(result.metering.multiplications, 1);
-    assert_eq!(result.ands, [0, 1]);
+    assert_eq!(result.levels, [level(0, 0), level(1, 0)]);
 }
 
 /// Too few levels: the depths are filled, and nothing else is.
 #[test]
 fn meter_fills_depths_where_only_levels_lack() {
-    for (ands, muxes, place) in [(2, 3, 2), (3, 2, 2), (1, 2, 1), (0, 9, 0), (9, 0, 0)] {
-        let result = meter(&THRESHOLD, &[9; 10], &vec![9; ands], &vec![9; muxes]);
+    for levels in 0..3 {
+        let result = meter(&THRESHOLD, &[9; 10], &vec![STALE; levels]);
         assert_eq!(
             result.metering,
             Metering {
-                answer: refusal(8, 3, place),
+                answer: refusal(8, 3, levels),
                 depth: 0,
                 multiplications: 0,
             }
         );
         assert_eq!(result.depths, [0, 0, 0, 0, 1, 1, 2, 2, 9, 9]);
-        assert_eq!((result.ands, result.muxes), (vec![9; ands], vec![9; muxes]));
+        assert_eq!(result.levels, vec![STALE; levels]);
     }
     // Too few depths as well: that is judged first, and nothing is filled.
-    let result = meter(&THRESHOLD, &[9; 7], &[9; 2], &[9; 2]);
+    let result = meter(&THRESHOLD, &[9; 7], &[STALE; 2]);
     assert_eq!(result.metering.answer, refusal(8, 2, 7));
     assert_eq!(result.depths, [9; 7]);
 }
@@ -497,11 +508,10 @@ fn every_damaged_word() {
             }
         }
         for depths in [0, 7, 8, 9] {
-            for (ands, muxes) in [(0, 0), (2, 3), (3, 2), (3, 3), (4, 5)] {
+            for levels in [0, 2, 3, 4] {
                 let depths = fill(&mut random, depths);
-                let ands = fill(&mut random, ands);
-                let muxes = fill(&mut random, muxes);
-                let result = meter(&net, &depths, &ands, &muxes);
+                let levels = fill(&mut random, levels);
+                let result = meter(&net, &depths, &levels);
                 if broken != Answer::DONE {
                     assert_eq!(result.metering.answer, broken);
                 }
@@ -569,23 +579,18 @@ fn every_list_length() {
         }
     }
     for depths in 0..=10 {
-        for ands in 0..=5 {
-            for muxes in 0..=5 {
-                let expected = if depths < 8 {
-                    refusal(8, 2, depths)
-                } else if ands < 3 {
-                    refusal(8, 3, ands)
-                } else if muxes < 3 {
-                    refusal(8, 3, muxes)
-                } else {
-                    Answer::DONE
-                };
-                let depths = fill(&mut random, depths);
-                let ands = fill(&mut random, ands);
-                let muxes = fill(&mut random, muxes);
-                let result = meter(&THRESHOLD, &depths, &ands, &muxes);
-                assert_eq!(result.metering.answer, expected);
-            }
+        for levels in 0..=5 {
+            let expected = if depths < 8 {
+                refusal(8, 2, depths)
+            } else if levels < 3 {
+                refusal(8, 3, levels)
+            } else {
+                Answer::DONE
+            };
+            let depths = fill(&mut random, depths);
+            let levels = fill(&mut random, levels);
+            let result = meter(&THRESHOLD, &depths, &levels);
+            assert_eq!(result.metering.answer, expected);
         }
     }
     for (second, needed, enough) in [
@@ -776,36 +781,35 @@ fn random_meterings() {
     for _ in 0..CASES {
         let shape = cases::small_shape(&mut random);
         let net = subject(&mut random, &shape, 30);
-        let levels = if net.broken {
+        let needed = if net.broken {
             random.between(0, 9)
         } else {
             levels_needed(&net.words)
         };
         let depths = near(&mut random, net.wires());
-        let ands = near(&mut random, levels);
-        let muxes = near(&mut random, levels);
+        let levels = near(&mut random, needed);
         let mut held = Vec::new();
         for (condition, holds) in [
             ((9, 1), net.broken),
             ((8, 2), depths < net.wires()),
-            ((8, 3), ands.min(muxes) < levels),
+            ((8, 3), levels < needed),
         ] {
             if holds {
                 held.push(condition);
             }
         }
         let depths = fill(&mut random, depths);
-        let (ands, muxes) = (fill(&mut random, ands), fill(&mut random, muxes));
-        let result = meter(&net.words, &depths, &ands, &muxes);
+        let levels: Vec<Level> = fill(&mut random, levels);
+        let result = meter(&net.words, &depths, &levels);
         let answer = result.metering.answer;
         if answer.list == 3 {
-            let short = [ands.len(), muxes.len()].into_iter().find(|&n| n < levels);
-            assert_eq!(Some(answer.place), short);
+            assert_eq!(answer.place, levels.len());
         }
         if answer == Answer::DONE {
-            let counted = result.ands[..levels].iter().chain(&result.muxes[..levels]);
+            let counted = result.levels[..needed].iter();
+            let counted = counted.map(|level| level.ands + level.muxes);
             assert_eq!(counted.sum::<u32>(), result.metering.multiplications);
-            *levels_seen.entry(levels.min(20)).or_insert(0) += 1;
+            *levels_seen.entry(needed.min(20)).or_insert(0) += 1;
         }
         tally.count(answer);
         faults.count(&[&net.words], answer);
@@ -1005,20 +1009,15 @@ fn largest_netlists() {
         let result = evaluate(&net, &inputs[1..], &stale_bytes, &stale_bytes);
         assert_eq!(result.answer, refusal(3, 2, MAX_INPUTS - 1));
 
-        let levels = levels_needed(&net);
-        for (depths, ands, muxes, expected) in [
-            (wires, levels, levels, Answer::DONE),
-            (wires + 1, levels + 1, levels + 1, Answer::DONE),
-            (wires - 1, levels, levels, refusal(8, 2, wires - 1)),
-            (wires, levels - 1, levels - 1, refusal(8, 3, levels - 1)),
-            (wires, levels, levels - 1, refusal(8, 3, levels - 1)),
+        let needed = levels_needed(&net);
+        for (depths, levels, expected) in [
+            (wires, needed, Answer::DONE),
+            (wires + 1, needed + 1, Answer::DONE),
+            (wires - 1, needed, refusal(8, 2, wires - 1)),
+            (wires, needed - 1, refusal(8, 3, needed - 1)),
         ] {
-            let result = meter(
-                &net,
-                &stale_words[..depths],
-                &stale_words[..ands],
-                &stale_words[..muxes],
-            );
+            let levels = fill(&mut random, levels);
+            let result = meter(&net, &stale_words[..depths], &levels);
             assert_eq!(result.metering.answer, expected);
         }
     }
@@ -1031,7 +1030,8 @@ fn deepest_netlist() {
     let net = cases::chain(1, MAX_GATES);
     let levels = MAX_GATES + 1;
     let stale: Vec<u32> = fill(&mut random, MAX_GATES + 2);
-    let result = meter(&net, &stale, &stale[..levels], &stale);
+    let stale_levels: Vec<Level> = fill(&mut random, levels + 1);
+    let result = meter(&net, &stale, &stale_levels);
     assert_eq!(
         result.metering,
         Metering {
@@ -1040,13 +1040,10 @@ fn deepest_netlist() {
             multiplications: 262_144,
         }
     );
-    assert_eq!(result.ands[..3], [0, 0, 1]);
-    assert_eq!(result.muxes[..3], [0, 1, 0]);
-    for (ands, muxes) in [(levels - 1, levels), (levels, levels - 1)] {
-        let result = meter(&net, &stale, &stale[..ands], &stale[..muxes]);
-        assert_eq!(result.metering.answer, refusal(8, 3, levels - 1));
-        assert_eq!(result.depths[MAX_GATES], 262_144);
-    }
+    assert_eq!(result.levels[..3], [level(0, 0), level(0, 1), level(1, 0)]);
+    let result = meter(&net, &stale, &stale_levels[..levels - 1]);
+    assert_eq!(result.metering.answer, refusal(8, 3, levels - 1));
+    assert_eq!(result.depths[MAX_GATES], 262_144);
     for bit in [0, 1] {
         assert_eq!(run(&net, &[bit]), [bit]);
     }
@@ -1082,7 +1079,7 @@ fn faults_in_the_largest_netlist() {
         assert_eq!(check(&words), refusal(9, 1, place));
         let result = evaluate(&words, &[], &[], &[]);
         assert_eq!(result.answer, refusal(9, 1, place));
-        let result = meter(&words, &[], &[], &[]);
+        let result = meter(&words, &[], &[]);
         assert_eq!(result.metering.answer, refusal(9, 1, place));
         assert_eq!(glue(&words, &words, &[]).answer, refusal(9, 1, place));
         assert_eq!(glue(&net, &words, &[]).answer, refusal(9, 2, place));
@@ -1169,8 +1166,7 @@ fn small_stack() {
     let mut values = vec![9; wires];
     let mut outputs = vec![9; MAX_OUTPUTS];
     let mut depths = vec![9; wires];
-    let mut ands = vec![9; MAX_GATES + 1];
-    let mut muxes = vec![9; MAX_GATES + 1];
+    let mut levels = vec![STALE; MAX_GATES + 1];
     let mut out = vec![9; glued_length(&first, &second)];
     std::thread::scope(|scope| {
         let call = || {
@@ -1178,7 +1174,7 @@ fn small_stack() {
             assert_eq!(probe::check(&chain), Answer::DONE);
             let answer = probe::evaluate(&net, &inputs, &mut values, &mut outputs);
             assert_eq!(answer, Answer::DONE);
-            let metering = probe::meter(&chain, &mut depths, &mut ands, &mut muxes);
+            let metering = probe::meter(&chain, &mut depths, &mut levels);
             assert_eq!(metering.answer, Answer::DONE);
             assert_eq!(metering.depth, 262_144);
             let answer = probe::glue(&first, &second, &mut out);

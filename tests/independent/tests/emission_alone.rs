@@ -8,7 +8,7 @@ use independent::definitions::{self, Condition};
 use independent::emission::{decipher, decipher_with, one_hot, threshold, MAX_COUNTED};
 use independent::emission_cases::{self, Emission, FAULTS};
 use independent::netlist::{
-    self, Answer, Metering, AND, HEADER, MAX_GATES, MAX_INPUTS, MUX, NOT, ONE, XOR, ZERO,
+    self, Answer, Level, Metering, AND, HEADER, MAX_GATES, MAX_INPUTS, MUX, NOT, ONE, XOR, ZERO,
 };
 use independent::random::{bits, seeded, Random};
 use independent::tally::Tally;
@@ -75,12 +75,12 @@ fn evaluate(net: &[u32], inputs: &[u8]) -> Vec<u8> {
 fn meter(net: &[u32]) -> (usize, Vec<usize>) {
     let gates = net[1] as usize;
     let mut depths = vec![9; net[0] as usize + gates];
-    let (mut ands, mut muxes) = (vec![9; gates + 1], vec![9; gates + 1]);
+    let mut levels = vec![Level::EMPTY; gates + 1];
     let Metering {
         answer,
         depth,
         multiplications,
-    } = netlist::meter(net, &mut depths, &mut ands, &mut muxes);
+    } = netlist::meter(net, &mut depths, &mut levels);
     assert_eq!(answer, Answer::DONE);
     let outputs = net[HEADER + 4 * gates..].iter();
     let of_outputs: Vec<usize> = outputs

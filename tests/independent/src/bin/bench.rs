@@ -12,7 +12,7 @@ use independent::cipher_cases::{self, Call};
 use independent::emission;
 use independent::emission_cases::{self, Emission};
 use independent::file_cases;
-use independent::netlist::{self, Answer, Metering, HEADER};
+use independent::netlist::{self, Answer, Level, Metering, HEADER};
 use independent::random::{bits, Random};
 use independent::{choice, file, kreyvium, probe};
 use std::hint::black_box;
@@ -33,7 +33,7 @@ const OUTPUTS: usize = 64;
 
 type Check = fn(&[u32]) -> Answer;
 type Evaluate = fn(&[u32], &[u8], &mut [u8], &mut [u8]) -> Answer;
-type Meter = fn(&[u32], &mut [u32], &mut [u32], &mut [u32]) -> Metering;
+type Meter = fn(&[u32], &mut [u32], &mut [Level]) -> Metering;
 type Glue = fn(&[u32], &[u32], &mut [u32]) -> Answer;
 
 /// The four calls of one program.
@@ -86,8 +86,7 @@ struct Load {
     values: Vec<u8>,
     outputs: Vec<u8>,
     depths: Vec<u32>,
-    ands: Vec<u32>,
-    muxes: Vec<u32>,
+    levels: Vec<Level>,
     glued: Vec<u32>,
 }
 
@@ -119,8 +118,7 @@ impl Load {
             values: vec![0; INPUTS + gates],
             outputs: vec![0; OUTPUTS],
             depths: vec![0; INPUTS + gates],
-            ands: vec![0; gates + 1],
-            muxes: vec![0; gates + 1],
+            levels: vec![Level::EMPTY; gates + 1],
             glued: vec![0; HEADER + 4 * gates + OUTPUTS],
         }
     }
@@ -158,8 +156,7 @@ fn run_meter(program: &Program, load: &mut Load) -> usize {
         let metering = (program.meter)(
             black_box(net),
             black_box(&mut load.depths),
-            black_box(&mut load.ands),
-            black_box(&mut load.muxes),
+            black_box(&mut load.levels),
         );
         refused += usize::from(black_box(metering).answer != Answer::DONE);
     }
