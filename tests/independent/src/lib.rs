@@ -5,8 +5,8 @@
 //! [`cipher`] the three cipher calls (keystream, encipher, decipher) over
 //! [`filter`] and [`kreyvium`], [`choice`] the choice of rows, [`emission`]
 //! the emission of one-hot, threshold and deciphering netlists, [`file`] the
-//! netlist file, [`daemon`] the daemon's two calls, and [`printing`] the
-//! printing program. They are written from the rules alone and share no line
+//! netlist file, [`path`] the whole path of a record, [`daemon`] the daemon's
+//! two calls, and [`printing`] the printing program. They are written from the rules alone and share no line
 //! with the library under test. [`definitions`] holds the ciphers, the choice,
 //! the emitted netlists and the file a second time, plain and slow. [`probe`]
 //! reaches the library through its C interface, [`sallowknot`] the daemon's, and
@@ -33,6 +33,8 @@ pub mod filter;
 pub mod kreyvium;
 pub mod lent;
 pub mod netlist;
+pub mod path;
+pub mod path_cases;
 pub mod printing;
 pub mod probe;
 pub mod random;
