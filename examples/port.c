@@ -116,6 +116,7 @@ static const size_t scoring_words = sizeof scoring / sizeof scoring[0];
 
 /* ---- answers in words */
 
+/* The numbers that the calls below can answer. */
 static const char *const refusals[] = {
     [1] = "there is no such instance",
     [2] = "a record has 1 to 64 bits",
