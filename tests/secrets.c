@@ -4,26 +4,13 @@
 //   secrets judged   every call is refused for want of room, which is judged last
 //   secrets whole    every call is accepted
 //   secrets leaky    as judged, and then a jump on a key bit
-#include <stdint.h>
+#include "../examples/probe.h"
+
 #include <stdio.h>
 #include <string.h>
 #include <valgrind/memcheck.h>
 
-struct reply {
-  uint32_t number, list;
-  size_t place;
-};
-
-struct reply probe_keystream(uint32_t instance, uint32_t m, const uint8_t *key, size_t keys, const uint32_t *indices,
-                             size_t places, const uint8_t *whitening, size_t whites, uint8_t *result, size_t room);
-typedef struct reply cipher_call(uint32_t instance, uint32_t m, const uint8_t *key, size_t keys, const uint8_t *record,
-                                 size_t bits, const uint32_t *indices, size_t places, const uint8_t *whitening,
-                                 size_t whites, uint8_t *result, size_t room);
-cipher_call probe_encipher, probe_decipher;
-
-enum { INSTANCES = 6, ROWS = 3, LARGEST_KEY = 16384, LARGEST_ROW = 1394, IV_BITS = 128 };
-static const uint32_t key_bits[INSTANCES] = {530, 1394, 16384, 4096, 16384, 128};
-static const uint32_t row_bits[INSTANCES] = {530, 1394, 1216, 1280, 144, 0};
+enum { ROWS = 3 };
 
 static uint8_t key[LARGEST_KEY], record[ROWS], whitening[ROWS * LARGEST_ROW], result[ROWS];
 static uint32_t indices[ROWS * LARGEST_ROW];
@@ -41,7 +28,7 @@ static void tell(const char *call, uint32_t instance, struct reply r) {
 }
 
 static void calls(uint32_t instance, size_t room) {
-  uint32_t keys = key_bits[instance - 1], row = row_bits[instance - 1];
+  uint32_t keys = instances[instance - 1].key, row = instances[instance - 1].row;
   size_t places = ROWS * row, whites = row ? places : IV_BITS;
   for (size_t j = 0; j < keys; j++)
     key[j] = (j * j / 5) % 2;

@@ -3,7 +3,7 @@
 
 use crate::file::{self, GATE_BYTES, HEADER_BYTES, OUTPUT_BYTES};
 use crate::lent::{show, Lent};
-use crate::netlist::{self, Answer, Level, Metering, HEADER};
+use crate::netlist::{self, length, Answer, Level, Metering, HEADER};
 use crate::probe;
 
 /// What an evaluation left behind; the other calls alike.
@@ -224,11 +224,6 @@ pub fn write_file(net: &[u32], result: &[u8]) -> Written {
         answer: rust,
         bytes: result.settle(written, "result", &case),
     }
-}
-
-/// The length of the netlist that these words begin with.
-fn length(words: &[u32]) -> usize {
-    HEADER + 4 * words[1] as usize + words[2] as usize
 }
 
 /// The length of the file of a sound netlist.

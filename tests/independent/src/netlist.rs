@@ -172,6 +172,11 @@ pub(crate) fn gate_fault(&[kind, a, b, c]: &[u32; 4], wire: usize) -> Option<usi
     }
 }
 
+/// The length of the netlist that these words begin with.
+pub fn length(words: &[u32]) -> usize {
+    HEADER + 4 * words[1] as usize + words[2] as usize
+}
+
 /// Whether `net` (list 1) keeps the netlist rules.
 pub fn check(net: &[u32]) -> Answer {
     Netlist::lent(net, 1).map(|_| ()).into()

@@ -2,6 +2,7 @@
 //! first place and its length.
 
 use crate::netlist::{Answer, Level, Metering};
+use crate::path::{Read, Rooms};
 use std::mem::MaybeUninit;
 
 #[repr(C)]
@@ -121,6 +122,33 @@ extern "C" {
         whitening_length: usize,
         result: *mut u32,
         result_length: usize,
+    ) -> RawReply;
+
+    fn probe_score(
+        instance: u32,
+        m: u32,
+        key: *const u8,
+        key_length: usize,
+        record: *const u8,
+        record_length: usize,
+        indices: *const u32,
+        indices_length: usize,
+        whitening: *const u8,
+        whitening_length: usize,
+        enciphered: *mut u8,
+        enciphered_length: usize,
+        deciphering: *mut u32,
+        deciphering_length: usize,
+        scoring: *const u32,
+        scoring_length: usize,
+        glued: *mut u32,
+        glued_length: usize,
+        inputs: *mut u8,
+        inputs_length: usize,
+        wires: *mut u8,
+        wires_length: usize,
+        scores: *mut u8,
+        scores_length: usize,
     ) -> RawReply;
 
     fn probe_read_file(
@@ -348,6 +376,39 @@ pub fn emit_decipher(
             whitening.len(),
             result.as_mut_ptr(),
             result.len(),
+        )
+    }
+    .into()
+}
+
+pub fn score(instance: u32, m: u32, read: &Read, rooms: Rooms) -> Answer {
+    // SAFETY: as in `check`.
+    unsafe {
+        probe_score(
+            instance,
+            m,
+            read.key.as_ptr(),
+            read.key.len(),
+            read.record.as_ptr(),
+            read.record.len(),
+            read.indices.as_ptr(),
+            read.indices.len(),
+            read.whitening.as_ptr(),
+            read.whitening.len(),
+            rooms.enciphered.as_mut_ptr(),
+            rooms.enciphered.len(),
+            rooms.deciphering.as_mut_ptr(),
+            rooms.deciphering.len(),
+            read.scoring.as_ptr(),
+            read.scoring.len(),
+            rooms.glued.as_mut_ptr(),
+            rooms.glued.len(),
+            rooms.inputs.as_mut_ptr(),
+            rooms.inputs.len(),
+            rooms.wires.as_mut_ptr(),
+            rooms.wires.len(),
+            rooms.scores.as_mut_ptr(),
+            rooms.scores.len(),
         )
     }
     .into()

@@ -9,7 +9,7 @@ use independent::cipher_cases::{self, Fault, List};
 use independent::definitions::{self, Condition};
 use independent::emission_cases::{self, Emission, FAULTS};
 use independent::lent::{show, Lent};
-use independent::netlist::{Answer, Metering, AND, HEADER, MAX_GATES, MUX, NOT, XOR};
+use independent::netlist::{length, Answer, Metering, AND, HEADER, MAX_GATES, MUX, NOT, XOR};
 use independent::random::{bits, fill, seeded, Random};
 use independent::tally::{self, Tally};
 use independent::{emission, probe};
@@ -28,11 +28,6 @@ fn least(held: &BTreeSet<Condition>) -> Answer {
         Some(&(number, list, place)) => refusal(number, list, place),
         None => Answer::DONE,
     }
-}
-
-/// The length of the netlist that these words begin with.
-fn length(words: &[u32]) -> usize {
-    HEADER + 4 * words[1] as usize + words[2] as usize
 }
 
 /// An answer, and what the result list then holds.

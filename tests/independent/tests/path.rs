@@ -1,0 +1,348 @@
+//! Hands the library and the Rust program the same whole paths of records, sound
+//! and damaged, and compares the answer and every lent list. What the steps make
+//! is held to their definitions, and the scores to those of the plain record.
+
+use independent::both::{evaluate, glued, run};
+use independent::cases;
+use independent::cipher_cases;
+use independent::definitions;
+use independent::lent::{show, Lent};
+use independent::netlist::{length, Answer, MAX_GATES};
+use independent::path::{self, Read, Rooms};
+use independent::path_cases::{self, Path, FAULTS, ROOMS};
+use independent::probe;
+use independent::random::{bits, seeded};
+use independent::tally::Tally;
+
+/// What a path left behind.
+struct Scored {
+    answer: Answer,
+    enciphered: Vec<u8>,
+    deciphering: Vec<u32>,
+    glued: Vec<u32>,
+    inputs: Vec<u8>,
+    wires: Vec<u8>,
+    scores: Vec<u8>,
+}
+
+/// How many of the rooms are filled where that is the answer.
+fn filled(answer: Answer) -> usize {
+    match (answer.number, answer.list) {
+        (0, _) => 6,
+        (8, 10 | 11) => 4,
+        (8, 9) => 3,
+        (9..=11, _) | (8, 8) => 2,
+        (8, 6) => 1,
+        _ => 0,
+    }
+}
+
+fn score(path: &Path) -> Scored {
+    let call = &path.emission.call;
+    let (instance, m) = (call.instance, call.m);
+    let case = || {
+        let rooms = [
+            call.result.len(),
+            path.emission.result.len(),
+            path.glued.len(),
+            path.inputs.len(),
+            path.wires.len(),
+            path.scores.len(),
+        ];
+        format!(
+            "path for instance {instance}, m {m}: record {}, scoring {}, rooms {rooms:?}",
+            show(path.emission.record()),
+            show(&path.scoring),
+        )
+    };
+    let read = path.read();
+    let (mut key, mut record) = (Lent::new(read.key), Lent::new(read.record));
+    let (mut indices, mut whitening) = (Lent::new(read.indices), Lent::new(read.whitening));
+    let mut scoring = Lent::new(read.scoring);
+    let mut enciphered = Lent::new(&call.result);
+    let mut deciphering = Lent::new(&path.emission.result);
+    let (mut glued, mut inputs) = (Lent::new(&path.glued), Lent::new(&path.inputs));
+    let (mut wires, mut scores) = (Lent::new(&path.wires), Lent::new(&path.scores));
+    let library = probe::score(
+        instance,
+        m,
+        &Read {
+            key: key.library(),
+            record: record.library(),
+            indices: indices.library(),
+            whitening: whitening.library(),
+            scoring: scoring.library(),
+        },
+        Rooms {
+            enciphered: enciphered.library(),
+            deciphering: deciphering.library(),
+            glued: glued.library(),
+            inputs: inputs.library(),
+            wires: wires.library(),
+            scores: scores.library(),
+        },
+    );
+    let rust = path::score(
+        instance,
+        m,
+        &Read {
+            key: key.rust(),
+            record: record.rust(),
+            indices: indices.rust(),
+            whitening: whitening.rust(),
+            scoring: scoring.rust(),
+        },
+        Rooms {
+            enciphered: enciphered.rust(),
+            deciphering: deciphering.rust(),
+            glued: glued.rust(),
+            inputs: inputs.rust(),
+            wires: wires.rust(),
+            scores: scores.rust(),
+        },
+    );
+    assert_eq!(library, rust, "library, rust; {}", case());
+    key.settle(0, "key", &case);
+    record.settle(0, "record", &case);
+    indices.settle(0, "indices", &case);
+    whitening.settle(0, "whitening bits", &case);
+    scoring.settle(0, "scoring netlist", &case);
+    let filled = &ROOMS[..filled(rust)];
+    let written = |room| match filled.contains(&room) {
+        true => path.need(room),
+        false => 0,
+    };
+    let scored = Scored {
+        answer: rust,
+        enciphered: enciphered.settle(written(5), "enciphered record", &case),
+        deciphering: deciphering.settle(written(6), "deciphering netlist", &case),
+        glued: glued.settle(written(8), "glued netlist", &case),
+        inputs: inputs.settle(written(9), "inputs", &case),
+        wires: wires.settle(written(10), "wires", &case),
+        scores: scores.settle(written(11), "scores", &case),
+    };
+    assert_made(path, &scored);
+    scored
+}
+
+/// Each room that is filled begins with what its step has to make.
+fn assert_made(path: &Path, scored: &Scored) {
+    let filled = filled(scored.answer);
+    let emission = &path.emission;
+    if filled >= 1 {
+        assert!(scored.enciphered.starts_with(&emission.call.expected()));
+    }
+    if filled >= 2 {
+        assert!(scored.deciphering.starts_with(&emission.expected()));
+    }
+    if filled >= 3 {
+        let deciphering = &scored.deciphering[..path.need(6)];
+        assert!(scored.glued.starts_with(&glued(deciphering, &path.scoring)));
+    }
+    if filled >= 4 {
+        assert!(scored.inputs.starts_with(&emission.inputs()));
+    }
+    if filled >= 5 {
+        let net = &scored.glued[..length(&scored.glued)];
+        let outputs = vec![9; path.need(11)];
+        let expected = evaluate(net, &emission.inputs(), &vec![9; path.need(10)], &outputs);
+        assert!(scored.wires.starts_with(&expected.values));
+        // The scores of the plain record.
+        let expected = run(&path.scoring, emission.record());
+        assert_eq!(scored.scores[..expected.len()], expected);
+    }
+}
+
+// ---- accepted ----
+
+/// Every instance with every number of bits.
+#[test]
+fn every_size() {
+    let mut random = seeded(501);
+    for instance in cipher_cases::instances() {
+        for m in 1..=64 {
+            let path = path_cases::sound(&mut random, instance, m);
+            assert_eq!(score(&path).answer, Answer::DONE);
+        }
+    }
+}
+
+/// The record itself comes out of a pass-through, and its weight is compared by
+/// thresholds.
+#[test]
+fn emitted_netlists_score() {
+    let mut random = seeded(502);
+    for instance in cipher_cases::instances() {
+        for m in [1, 2, 7, 20] {
+            let pass = cases::pass_through(m);
+            let mut path = path_cases::ending(&mut random, instance, m, pass);
+            for _ in 0..3 {
+                path.emission.call.record = Some(bits(&mut random, m));
+                assert_eq!(score(&path).scores[..m], *path.emission.record());
+            }
+            let d = random.between(1, m);
+            let threshold = definitions::threshold_netlist(d, m);
+            let path = path_cases::ending(&mut random, instance, m, threshold);
+            let reached = definitions::threshold(path.emission.record(), d);
+            assert_eq!(score(&path).scores[0], reached);
+        }
+    }
+}
+
+/// As many gates behind a deciphering netlist as there can be, and one more.
+#[test]
+fn largest_netlist() {
+    let mut random = seeded(503);
+    let mut path = path_cases::sound(&mut random, 5, 2);
+    let left = MAX_GATES - path.deciphering_gates();
+    path.lend(&mut random, cases::nots(2, left));
+    let scored = score(&path);
+    assert_eq!(scored.answer, Answer::DONE);
+    assert_eq!(scored.glued[1], MAX_GATES as u32);
+    path.lend(&mut random, cases::nots(2, left + 1));
+    assert_eq!(score(&path).answer, Answer::TOO_MANY_GATES);
+}
+
+// ---- refused ----
+
+/// Each fault alone, in each instance that can have it.
+#[test]
+fn each_fault() {
+    let mut random = seeded(504);
+    for fault in FAULTS {
+        let mut made = 0;
+        for instance in cipher_cases::instances() {
+            for _ in 0..5 {
+                let m = random.between(1, 4);
+                let mut path = path_cases::sound(&mut random, instance, m);
+                if !fault.suits(&path) {
+                    continue;
+                }
+                let (number, list, place) = path_cases::inflict(&mut random, &mut path, fault);
+                let expected = Answer::new(number, list, place);
+                assert_eq!(score(&path).answer, expected, "{fault:?}");
+                made += 1;
+            }
+        }
+        assert!(made >= 10, "{fault:?} was made only {made} times");
+    }
+}
+
+/// Each way in which the scoring netlist can break its rules.
+#[test]
+fn each_fault_of_the_scoring_netlist() {
+    let mut random = seeded(505);
+    for fault in cases::FAULTS {
+        let mut made = 0;
+        while made < 10 {
+            let (instance, m) = (random.pick(&[1, 5, 6]), random.between(1, 4));
+            let mut path = path_cases::sound(&mut random, instance, m);
+            if let Some(place) = cases::inflict(&mut random, &mut path.scoring, fault) {
+                let expected = Answer::broken_netlist(7, place);
+                assert_eq!(score(&path).answer, expected, "{fault:?}");
+                made += 1;
+            }
+        }
+    }
+}
+
+/// Two faults at once: the one that is judged first is the answer.
+#[test]
+fn each_pair_of_faults() {
+    let mut random = seeded(506);
+    for (at, &first) in FAULTS.iter().enumerate() {
+        for &second in &FAULTS[at + 1..] {
+            let mut path = loop {
+                let (instance, m) = (random.between(1, 6) as u32, random.between(1, 3));
+                let path = path_cases::sound(&mut random, instance, m);
+                if first.suits(&path) && second.suits(&path) {
+                    break path;
+                }
+            };
+            // What is judged first goes in last: the other needs it sound.
+            path_cases::inflict(&mut random, &mut path, second);
+            let (number, list, place) = path_cases::inflict(&mut random, &mut path, first);
+            let expected = Answer::new(number, list, place);
+            assert_eq!(score(&path).answer, expected, "{first:?}, {second:?}");
+        }
+    }
+}
+
+/// Every room exact, then each in turn empty and one place too short.
+#[test]
+fn every_room() {
+    let mut random = seeded(507);
+    for instance in cipher_cases::instances() {
+        let m = random.between(1, 5);
+        let threshold = definitions::threshold_netlist(1, m);
+        let mut sound = path_cases::ending(&mut random, instance, m, threshold);
+        for room in ROOMS {
+            sound.shorten(room, sound.need(room));
+        }
+        assert_eq!(score(&sound).answer, Answer::DONE);
+        for room in ROOMS {
+            for places in [0, sound.need(room) - 1] {
+                let mut path = sound.clone();
+                path.shorten(room, places);
+                assert_eq!(score(&path).answer, Answer::too_short(room, places));
+            }
+        }
+    }
+}
+
+// ---- at random ----
+
+/// Damage with no regard to what it does.
+#[test]
+fn random_damage() {
+    const CASES: usize = 600;
+    let mut random = seeded(508);
+    let mut tally = Tally::default();
+    for _ in 0..CASES {
+        let (instance, m) = cipher_cases::size(&mut random);
+        let mut path = path_cases::sound(&mut random, instance, m);
+        for _ in 0..random.between(0, 2) {
+            path_cases::wreck(&mut random, &mut path);
+        }
+        tally.count(score(&path).answer);
+    }
+    for room in ROOMS {
+        tally.assert_seen(8, room, CASES / 100);
+    }
+    for (number, list) in [(0, 0), (9, 7)] {
+        tally.assert_seen(number, list, CASES / 20);
+    }
+}
+
+// ---- at the limits ----
+
+/// The library's call on the longest lists, all buffers outside, on a small
+/// stack.
+#[test]
+fn small_stack() {
+    const STACK: usize = 512 * 1024;
+    let mut random = seeded(509);
+    for instance in cipher_cases::instances() {
+        let sound = path_cases::sound(&mut random, instance, 64);
+        let mut path = sound.clone();
+        std::thread::scope(|scope| {
+            let work = || {
+                let rooms = Rooms {
+                    enciphered: &mut path.emission.call.result,
+                    deciphering: &mut path.emission.result,
+                    glued: &mut path.glued,
+                    inputs: &mut path.inputs,
+                    wires: &mut path.wires,
+                    scores: &mut path.scores,
+                };
+                let answer = probe::score(instance, 64, &sound.read(), rooms);
+                assert_eq!(answer, Answer::DONE);
+            };
+            let thread = std::thread::Builder::new().stack_size(STACK);
+            let thread = thread.spawn_scoped(scope, work).expect("a thread");
+            thread.join().expect("the call ends well");
+        });
+        let expected = run(&sound.scoring, sound.emission.record());
+        assert_eq!(path.scores[..expected.len()], expected);
+    }
+}
