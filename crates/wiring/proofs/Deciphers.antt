@@ -157,65 +157,8 @@ module _ (S : ℕ → Split) (K : Splits S) (inst : ℕ) (c : Cost) (t : Known S
   row-below : (i next : ℕ) → N + m ≤ next → All (λ p. p < next) (rowAt (rowBits inst) i idx)
   row-below i next h = all-map {P = λ p. p < N} {Q = λ p. p < next} (rowAt (rowBits inst) i idx) (λ p q. omega arith) (row-keys i)
 
-  pub decipher-mults : mults (rowsNet S inst idx wh m) ≡ m * c .mults
-  unfolding rowsNet partAt
-  decipher-mults = bits-mults S inst idx wh (c .mults) m
-      (λ i next h l. bit-muls S K inst c t (N + i) next (rowAt (rowBits inst) i idx) (rowAt (rowBits inst) i wh) (row-is i h) (row-below i next l) (omega arith))
-      m 0 (N + m) (omega arith) (omega arith)
-
-  row-nots : (i : ℕ) → i < m → length (nots (rowAt (rowBits inst) i idx) (rowAt (rowBits inst) i wh)) ≡ ones (rowAt (rowBits inst) i wh)
-  row-nots i h = nots-ones (rowAt (rowBits inst) i idx) (rowAt (rowBits inst) i wh)
-      (row-is i h ∙ sym (row-length (rowBits inst) i m wh (R .whitening) h))
-      (row-all (λ w. w ≤ 1) (rowBits inst) i wh (at-all (λ w. w ≤ 1) wh (R .whiteBit)))
-
-  pub decipher-gates : length (rowsNet S inst idx wh m .gates) ≡ ones wh + m * c .gates
-  unfolding rowsNet partAt
-  decipher-gates = bits-gates S inst idx wh (c .gates) m (R .whitening)
-      (λ i next h l.
-      bit-size S K inst c t (N + i) next (rowAt (rowBits inst) i idx) (rowAt (rowBits inst) i wh) (row-is i h) (row-below i next l) (omega arith)
-      ∙ ap (λ (z : ℕ). z + c .gates) (row-nots i h))
-      m 0 (N + m) (omega arith) (omega arith)
-      ∙ ap (λ (z : ℕ). ones (drop z wh) + m * c .gates) (zero-mul (rowBits inst))
-
-  pub decipher-outs : length (rowsNet S inst idx wh m .outs) ≡ m
-  unfolding rowsNet
-  decipher-outs = outs-length S inst idx wh m 0 (N + m)
-
-  pub decipher-valid : Valid (rowsNet S inst idx wh m)
-  unfolding rowsNet partAt
-  decipher-valid =
-      let r = bits-valid S inst idx wh m
-      (λ i next h l. bit-sits S K inst c t (N + i) next (rowAt (rowBits inst) i idx) (rowAt (rowBits inst) i wh) (row-is i h) (row-below i next l) (omega arith))
-      m 0 (N + m) (omega arith) (omega arith) in
-      record { wired = r .0; outs = r .1 }
-
   old-row : {X : Type 0} (A : Alg X) (u v : List X) (i : ℕ) → Same A (N + m) u v → All (Old A u v) (rowAt (rowBits inst) i idx)
   old-row A u v i s = all-map {P = λ p. p < N} {Q = Old A u v} (rowAt (rowBits inst) i idx) (λ p h. record { there = omega (arith, s .long); same = s .eq p (omega arith) }) (row-keys i)
-
-  -- depth, of one bit or more
-  pub decipher-depth : 1 ≤ m → depth (rowsNet S inst idx wh m) ≡ c .depth
-  unfolding rowsNet partAt
-  decipher-depth h1 =
-      let u : List ℕ = replicate (N + m) 0 in
-      let lu : length u ≡ N + m = length-replicate (N + m) 0 in
-      ap maxOf (outs-list S inst idx wh depAlg u (N + m) m (λ (j : ℕ). c .depth)
-      (λ i next v h n s.
-      let row = rowAt (rowBits inst) i idx in
-      let ws = rowAt (rowBits inst) i wh in
-      let b = row-below i next (omega (arith, s .long)) in
-      let a : All (λ p. at depAlg u p ≡ 0) row = all-map row (λ p q. getD-replicate (N + m) p 0 0 (omega arith)) (row-keys i) in
-      subst (λ (z : ℕ). Carries depAlg v (bitPart S inst (N + i) next row ws) z)
-      (bit-depth S K inst c t (N + i) next row ws (row-is i h) b (omega (arith, s .long)) v n (whites depAlg u row ws)
-      (nots-carry depAlg u v row ws next n (old-row depAlg u v i s))
-      (whites-all depAlg (λ x. x ≡ 0) (λ x e. e) u row ws a)
-      (s .eq (N + i) (omega arith) ∙ getD-replicate (N + m) (N + i) 0 0 (omega arith)))
-      (bit-any S K inst c t (N + i) next row ws (row-is i h) b (omega (arith, s .long)) depAlg v n))
-      m 0 (N + m) u (omega arith) (sym lu) (record { long = omega arith; eq = λ w h. refl }))
-      ∙ top m h1
-    where
-      top : (m : ℕ) → 1 ≤ m → maxOf (listOf (λ (j : ℕ). c .depth) m 0) ≡ c .depth
-      top zero h = absurd (omega arith)
-      top (suc k) h = max-const (c .depth) k 0
 
   -- values: for every key and every enciphered record, what deciphering gives
   module _ (key rec : List ℕ) (I : Inputs inst m key rec) where
@@ -270,3 +213,60 @@ module _ (S : ℕ → Split) (K : Splits S) (inst : ℕ) (c : Cost) (t : Known S
         (bit-any S K inst c t (N + i) next row ws (row-is i h) b (omega (arith, s .long)) valAlg v n))
         m 0 (N + m) U (omega arith) (sym lu) (record { long = omega arith; eq = λ w h. refl })
         ∙ list-tab (decipherBit inst key rec idx wh) m
+
+  pub decipher-mults : mults (rowsNet S inst idx wh m) ≡ m * c .mults
+  unfolding rowsNet partAt
+  decipher-mults = bits-mults S inst idx wh (c .mults) m
+      (λ i next h l. bit-muls S K inst c t (N + i) next (rowAt (rowBits inst) i idx) (rowAt (rowBits inst) i wh) (row-is i h) (row-below i next l) (omega arith))
+      m 0 (N + m) (omega arith) (omega arith)
+
+  row-nots : (i : ℕ) → i < m → length (nots (rowAt (rowBits inst) i idx) (rowAt (rowBits inst) i wh)) ≡ ones (rowAt (rowBits inst) i wh)
+  row-nots i h = nots-ones (rowAt (rowBits inst) i idx) (rowAt (rowBits inst) i wh)
+      (row-is i h ∙ sym (row-length (rowBits inst) i m wh (R .whitening) h))
+      (row-all (λ w. w ≤ 1) (rowBits inst) i wh (at-all (λ w. w ≤ 1) wh (R .whiteBit)))
+
+  pub decipher-gates : length (rowsNet S inst idx wh m .gates) ≡ ones wh + m * c .gates
+  unfolding rowsNet partAt
+  decipher-gates = bits-gates S inst idx wh (c .gates) m (R .whitening)
+      (λ i next h l.
+      bit-size S K inst c t (N + i) next (rowAt (rowBits inst) i idx) (rowAt (rowBits inst) i wh) (row-is i h) (row-below i next l) (omega arith)
+      ∙ ap (λ (z : ℕ). z + c .gates) (row-nots i h))
+      m 0 (N + m) (omega arith) (omega arith)
+      ∙ ap (λ (z : ℕ). ones (drop z wh) + m * c .gates) (zero-mul (rowBits inst))
+
+  pub decipher-outs : length (rowsNet S inst idx wh m .outs) ≡ m
+  unfolding rowsNet
+  decipher-outs = outs-length S inst idx wh m 0 (N + m)
+
+  pub decipher-valid : Valid (rowsNet S inst idx wh m)
+  unfolding rowsNet partAt
+  decipher-valid =
+      let r = bits-valid S inst idx wh m
+      (λ i next h l. bit-sits S K inst c t (N + i) next (rowAt (rowBits inst) i idx) (rowAt (rowBits inst) i wh) (row-is i h) (row-below i next l) (omega arith))
+      m 0 (N + m) (omega arith) (omega arith) in
+      record { wired = r .0; outs = r .1 }
+
+  -- depth, of one bit or more
+  pub decipher-depth : 1 ≤ m → depth (rowsNet S inst idx wh m) ≡ c .depth
+  unfolding rowsNet partAt
+  decipher-depth h1 =
+      let u : List ℕ = replicate (N + m) 0 in
+      let lu : length u ≡ N + m = length-replicate (N + m) 0 in
+      ap maxOf (outs-list S inst idx wh depAlg u (N + m) m (λ (j : ℕ). c .depth)
+      (λ i next v h n s.
+      let row = rowAt (rowBits inst) i idx in
+      let ws = rowAt (rowBits inst) i wh in
+      let b = row-below i next (omega (arith, s .long)) in
+      let a : All (λ p. at depAlg u p ≡ 0) row = all-map row (λ p q. getD-replicate (N + m) p 0 0 (omega arith)) (row-keys i) in
+      subst (λ (z : ℕ). Carries depAlg v (bitPart S inst (N + i) next row ws) z)
+      (bit-depth S K inst c t (N + i) next row ws (row-is i h) b (omega (arith, s .long)) v n (whites depAlg u row ws)
+      (nots-carry depAlg u v row ws next n (old-row depAlg u v i s))
+      (whites-all depAlg (λ x. x ≡ 0) (λ x e. e) u row ws a)
+      (s .eq (N + i) (omega arith) ∙ getD-replicate (N + m) (N + i) 0 0 (omega arith)))
+      (bit-any S K inst c t (N + i) next row ws (row-is i h) b (omega (arith, s .long)) depAlg v n))
+      m 0 (N + m) u (omega arith) (sym lu) (record { long = omega arith; eq = λ w h. refl }))
+      ∙ top m h1
+    where
+      top : (m : ℕ) → 1 ≤ m → maxOf (listOf (λ (j : ℕ). c .depth) m 0) ≡ c .depth
+      top zero h = absurd (omega arith)
+      top (suc k) h = max-const (c .depth) k 0
