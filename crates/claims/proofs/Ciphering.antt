@@ -15,6 +15,9 @@ use Rattle.answer.proofs.Rows.{refuse-not, first-done, then-done, both, one-of,
 use Rattle.answer.proofs.Search.{done-bits}
 use Rattle.answer.proofs.Over.{take-over, made}
 use Rattle.instance.specs.Judging.{lengthAnswer, roomAnswer}
+use Rattle.daemon.specs.Daemon.{Enciphered}
+use Rattle.daemon.proofs.Numbers.{done-zero, kreyvium-zero}
+use Rattle.daemon.proofs.Counted.{as-cipher, accepted-cipher, cipher-accepted}
 use Rattle.cipher.specs.Judging.{wiringAnswer, encipherAnswer}
 use Rattle.cipher.specs.Cipher.{keystreamOf, encipherOf, Ciphered}
 use Rattle.answer.proofs.Added.{added-length, added-twice, added-bits}
@@ -64,3 +67,12 @@ ciphering-back inst m key rec idx wh out back {r} {c} {d} x h y =
     let v : encipherOf inst m key (take m c) idx wh ≡ rec =
     ap (λ (o : List ℕ). added o ks) t ∙ added-twice rec ks (omega (arith, l .2)) (l .3) in
     (g, y .written ∙ sym (made _ _ g) ∙ ap (λ (o : List ℕ). over o back) v)
+
+-- The same of the daemon's call, whose answer is one number, 0 for Done.
+pub kreyvium-back : (m : ℕ) (key rec iv out back : List ℕ) {r s : ℕ} {c d : List ℕ}
+    → Enciphered m key rec iv out r c → r ≡ 0 → m ≤ length back → Enciphered m key (take m c) iv back s d
+    → (s ≡ 0) × (d ≡ over rec back)
+kreyvium-back m key rec iv out back {r} {s} {c} {d} x z h y =
+    let e = accepted-cipher m key rec iv (length out) (kreyvium-zero m key rec iv (length out) (sym (x .answered) ∙ z)) in
+    let b = ciphering-back 6 m key rec [] iv out back (rw e at (as-cipher m key rec iv out x)) h (as-cipher m key (take m c) iv back y) in
+    (y .answered ∙ done-zero (cipher-accepted m key (take m c) iv (length back) (b .0)), b .1)

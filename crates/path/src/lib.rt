@@ -1,4 +1,4 @@
-// The whole path of a record: document 00's last demand as one call. The record is enciphered, the netlist that
+// The whole path of a record: the request's last sentence as one call. The record is enciphered, the netlist that
 // deciphers it is emitted, a scoring netlist is glued behind that, and the glued netlist is evaluated on the key and the
 // enciphered record: the scores are the scoring netlist's outputs on the plain record.
 use answer::Answer;

@@ -1,4 +1,4 @@
-// The public calls, exported for the tests alone. Lists pass as a pointer and a length, an answer as its
+// The public calls, exported for the tests and the demonstration. Lists pass as a pointer and a length, an answer as its
 // number, list and place: 0, 0, 0 for done.
 use answer::Answer;
 use meter::Level;
