@@ -79,7 +79,8 @@ fn with_filter(
     Answer::Done
 }
 
-// The same with Kreyvium, so fast that going through the code for rows would be felt.
+// The same with Kreyvium, so fast that going through the code for rows would be felt. Key and IV are packed here, as
+// in `stream::put`: to lend them on would be felt too.
 fn with_kreyvium(
     m: u32,
     key: &[u8],
@@ -94,8 +95,12 @@ fn with_kreyvium(
     let Answer::Done = r else {
         return r;
     };
+    let k0 = stream::word(key, 0);
+    let k1 = stream::word(key, 64);
+    let v0 = stream::word(iv, 0);
+    let v1 = stream::word(iv, 64);
     let n = m as usize;
-    stream::put(key, iv, &mut result[..n]);
+    stream::put_front(kreyvium::stream64(k0, k1, v0, v1), &mut result[..n]);
     add(record, result);
     Answer::Done
 }
