@@ -2,13 +2,17 @@
 use Prim.Native.Nat.{ℕ, zero, suc, _*_, _<_, _≤_}
 use mathlib.Core.Path.{_≡_, refl, ap, _∙_}
 use mathlib.Core.List.{List, [], _∷_}
+use native.Mathlib.Nat.{mul-zero}
 use native.Mathlib.Omega.{arith}
 use lib.ListN.{length, getD}
 use borrow.Author.Tests.{ne-eqb}
 use Rattle.answer.specs.declared.Answer.the-variants.{Done}
+use Rattle.answer.specs.Answers.{_▹_, refuse}
+use Rattle.answer.specs.First.{firstFrom}
 use Rattle.answer.proofs.Rows.{first-done, then-done, one-of, two-of, three-of}
 use Rattle.answer.proofs.Search.{bits-done, bits-within}
 use Rattle.instance.specs.Table.{sizesOf, keyBits, rowBits, whiteBits}
+use Rattle.instance.specs.Judging.{lengthAnswer, firstAnswer, rowsAnswer, whiteAnswer, roomAnswer}
 use Rattle.instance.proofs.Judged.{row-small, numbers-done, length-done, room-done, rows-done}
 use Rattle.cipher.specs.Judging.{wiringLengths, wiringAnswer, keystreamAnswer, encipherAnswer}
 use Rattle.cipher.specs.Rows.{Rows, streamBit}
@@ -85,6 +89,16 @@ pub stream-lent : (inst m : ℕ) (key idx wh : List ℕ) → Lent inst m key idx
     → (m ≤ 64) × (length key ≡ 128) × (length wh ≡ 128) × ((i : ℕ) → getD key i 0 ≤ 1) × ((i : ℕ) → getD wh i 0 ≤ 1)
 unfolding sizesOf whiteBits
 stream-lent inst m key idx wh s e = (s .few, s .keyLength ∙ ap keyBits e, s .whitening ∙ ap (λ (i : ℕ). whiteBits i m) e, bits-within key (s .keyBit), bits-within wh (s .whiteBit))
+
+-- its lengths leave no index
+pub no-indices : (m k r i w : ℕ) → lengthAnswer 1 k (keyBits 6) ▹ lengthAnswer 2 r m ▹ wiringLengths 3 6 m i w ≡ Done → i ≡ 0
+unfolding wiringLengths sizesOf
+no-indices m k r i w e = length-done 3 i _ (two-of _ _ _ (then-done _ _ e)) ∙ mul-zero m
+
+-- and without indices nothing but room is judged after the bits
+pub room-alone : (m n : ℕ) (idx iv : List ℕ) → length idx ≡ 0 → roomAnswer 5 n m ≡ wiringAnswer 3 6 m idx iv n
+unfolding wiringAnswer rowsAnswer firstAnswer whiteAnswer _▹_ refuse firstFrom
+room-alone m n idx iv e = rw e refl
 
 -- which of the two keystreams it is
 pub stream-of : (inst m : ℕ) (key idx wh : List ℕ) → inst ≡ 6 → streamOf key wh m ≡ keystreamOf inst m key idx wh

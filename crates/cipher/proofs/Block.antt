@@ -1,8 +1,10 @@
 -- Kreyvium's block of 64 bits, for its writer.
 use Prim.Native.Nat.{ℕ, zero, suc, _-_, _/_, _%_, _^_, _≤_}
-use mathlib.Core.Path.{_≡_, refl, ap, ap₂}
-use mathlib.Core.List.{List, [], _∷_, _++_}
+use mathlib.Core.Path.{_≡_, refl, sym, ap, ap₂, _∙_}
+use mathlib.Core.List.{List, [], _∷_, _++_, append-nil}
+use native.Mathlib.Omega.{arith}
 use lib.ListN.{length, getD, take, drop}
+use lib.Seq.{length-take-le, drop-length}
 use Rattle.kreyvium.specs.Words.{bits, packed, bit, tops}
 use Rattle.kreyvium.specs.Kreyvium.{streamOf}
 use Rattle.kreyvium.proofs.Packed.{two-words}
@@ -19,6 +21,14 @@ tab-tops (suc n) z = ap (λ (t : List ℕ). t ++ bit z (63 - n) ∷ []) (tab-top
 pub block-bit : (z i : ℕ) → z / 2 ^ (63 - i) % 2 ≡ blockBit z i
 unfolding bit
 block-bit z i = refl
+
+-- a whole block leaves nothing of what stood there
+pub whole : (z : ℕ) (out front : List ℕ) → length out ≡ 64 → front ≡ tops (length (take 64 out)) z → front ++ drop 64 out ≡ tops (length out) z
+whole z out front l e =
+    ap₂ _++_
+    (e ∙ ap (λ (n : ℕ). tops n z) (length-take-le 64 out (omega (arith, l)) ∙ sym l))
+    (ap (λ (n : ℕ). drop n out) (sym l) ∙ drop-length out)
+    ∙ append-nil (tops (length out) z)
 
 module _ (key iv : List ℕ) (k : length key ≡ 128) (v : length iv ≡ 128) (b : (i : ℕ) → getD key i 0 ≤ 1) (d : (i : ℕ) → getD iv i 0 ≤ 1) where
   -- key and IV lent as two words each

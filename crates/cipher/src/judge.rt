@@ -127,6 +127,32 @@ pub(crate) fn encipher(
     wiring(instance, m, indices, whitening, room, 3)
 }
 
+// The same for instance 6. Its index list is empty and its IV is no whitening: there is no 5, 6 or 7.
+pub(crate) fn kreyvium(
+    m: u32,
+    key: &[u8],
+    record: &[u8],
+    indices: &[u32],
+    iv: &[u8],
+    room: usize,
+) -> Answer
+    ensures { λ r. ⌜ r ≡ encipherAnswer 6 m (now (key .entry)) (now («record» .entry)) (now (indices .entry)) (now (iv .entry)) room ⌝ }
+{
+    let r = instance::numbers(6, m);
+    let Answer::Done = r else {
+        return r;
+    };
+    let s = record_lengths(6, m, key.len(), record.len(), indices.len(), iv.len());
+    let Answer::Done = s else {
+        return s;
+    };
+    let t = record_bits(key, record, iv);
+    let Answer::Done = t else {
+        return t;
+    };
+    instance::room(room, m as usize, 5)
+}
+
 fn record_lengths(
     instance: u32,
     m: u32,

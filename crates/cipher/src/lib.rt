@@ -57,8 +57,8 @@ pub fn keystream(
     Answer::Done
 }
 
-// A record of m bits, each added to the keystream bit at its place.
-pub fn encipher(
+// A record enciphered with a filter: each bit is added to the keystream bit at its place.
+fn with_filter(
     instance: u32,
     m: u32,
     key: &[u8],
@@ -77,6 +77,50 @@ pub fn encipher(
     put_stream(instance, key, indices, whitening, &mut result[..n]);
     add(record, result);
     Answer::Done
+}
+
+// The same with Kreyvium, so fast that going through the code for rows would be felt. Key and IV are packed here, as
+// in `stream::put`: to lend them on would be felt too.
+fn with_kreyvium(
+    m: u32,
+    key: &[u8],
+    record: &[u8],
+    indices: &[u32],
+    iv: &[u8],
+    result: &mut [u8],
+) -> Answer
+    ensures { λ r. ⌜ Ciphered 6 m (now (key .entry)) (now («record» .entry)) (now (indices .entry)) (now (iv .entry)) (now (result .entry)) r (now (result .exit)) ⌝ }
+{
+    let r = judge::kreyvium(m, key, record, indices, iv, result.len());
+    let Answer::Done = r else {
+        return r;
+    };
+    let k0 = stream::word(key, 0);
+    let k1 = stream::word(key, 64);
+    let v0 = stream::word(iv, 0);
+    let v1 = stream::word(iv, 64);
+    let n = m as usize;
+    stream::put_front(kreyvium::stream64(k0, k1, v0, v1), &mut result[..n]);
+    add(record, result);
+    Answer::Done
+}
+
+// A record of m bits, each added to the keystream bit at its place.
+pub fn encipher(
+    instance: u32,
+    m: u32,
+    key: &[u8],
+    record: &[u8],
+    indices: &[u32],
+    whitening: &[u8],
+    result: &mut [u8],
+) -> Answer
+    ensures { λ r. ⌜ Ciphered instance m (now (key .entry)) (now («record» .entry)) (now (indices .entry)) (now (whitening .entry)) (now (result .entry)) r (now (result .exit)) ⌝ }
+{
+    if instance == 6 {
+        return with_kreyvium(m, key, record, indices, whitening, result);
+    }
+    with_filter(instance, m, key, record, indices, whitening, result)
 }
 
 // Adding the same keystream again takes it off.

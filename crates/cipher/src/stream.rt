@@ -34,7 +34,7 @@ fn eight(s: &[u8], at: usize) -> u64
 }
 
 // 64 bits, eight at a time.
-fn word(s: &[u8], from: usize) -> u64
+pub(crate) fn word(s: &[u8], from: usize) -> u64
     requires { ⌜ (from + 64 ≤ length (now s)) × ((i : ℕ) → getD (now s) i 0 ≤ 1) ⌝ }
     ensures { λ r. ⌜ r ≡ packed (take 64 (drop from (now (s .entry)))) ⌝ }
 {
@@ -102,11 +102,23 @@ fn put_block(z: u64, out: &mut [u8])
     put_rest(z, i, out);
 }
 
+// The same. A whole block is lent on by its length, a constant, so that the compiler writes no loop for it.
+pub(crate) fn put_front(z: u64, out: &mut [u8])
+    requires { ⌜ length (now out) ≤ 64 ⌝ }
+    ensures { λ r. ⌜ now (out .exit) ≡ tops (length (now (out .entry))) z ⌝ }
+{
+    if out.len() == 64 {
+        put_block(z, &mut out[..64]);
+    } else {
+        put_block(z, out);
+    }
+}
+
 // The keystream's first bits, one for each place of out.
 pub(crate) fn put(key: &[u8], iv: &[u8], out: &mut [u8])
     requires { ⌜ (length (now out) ≤ 64) × (length (now key) ≡ 128) × (length (now iv) ≡ 128) × ((i : ℕ) → getD (now key) i 0 ≤ 1) × ((i : ℕ) → getD (now iv) i 0 ≤ 1) ⌝ }
     ensures { λ r. ⌜ now (out .exit) ≡ streamOf (now (key .entry)) (now (iv .entry)) (length (now (out .entry))) ⌝ }
 {
     let z = kreyvium::stream64(word(key, 0), word(key, 64), word(iv, 0), word(iv, 64));
-    put_block(z, out);
+    put_front(z, out);
 }

@@ -20,8 +20,8 @@ word-requires-4 c κs = search needs
 stream64-requires : tie.Need-stream64-requires
 stream64-requires c κs = search needs
 
-put-block-requires : tie.Need-put-block-requires
-put-block-requires c κs = search needs
+put-front-requires : tie.Need-put-front-requires
+put-front-requires c κs = search needs
 
 same-length : tie.Need-same-length
 same-length c = search needs
@@ -36,7 +36,7 @@ returns c =
     let w1 = w2 .before in
     let s = w1 .before .before .before .before in
     let p = s .pre in
-    b .put-block .ensures
+    b .put-front .ensures
     ∙ t .stream64 .ensures _ (p .0)
     ∙ stream-words (now (s .args .key)) (now (s .args .iv)) (p .1) (p .2) (p .3) (p .4) _ _ _ _ _ (w1 .word .ensures) (w2 .word2 .ensures) (w3 .word3 .ensures) (w4 .word4 .ensures)
 
@@ -49,6 +49,6 @@ put-spec =
     word-requires-3
     word-requires-4
     stream64-requires
-    put-block-requires
+    put-front-requires
     same-length
     returns)
