@@ -15,6 +15,7 @@ use Rattle.answer.proofs.Search.{first-before}
 use Rattle.instance.specs.declared.Sizes.{Sizes}
 use Rattle.instance.specs.Table.{sizesOf, keyBits, rowBits}
 use Rattle.instance.specs.Judging.{lengthAnswer, roomAnswer, firstAnswer}
+use Rattle.instance.proofs.Judged.{key-small}
 use Rattle.choice.specs.Choice.{chosen, rowOf, pastDraw, chooseAnswer}
 use Rattle.choice.specs.Draws.{DrawsFit}
 
@@ -29,17 +30,6 @@ row-fits (suc (suc (suc (suc zero)))) = omega arith
 row-fits (suc (suc (suc (suc (suc zero))))) = omega arith
 row-fits (suc (suc (suc (suc (suc (suc zero)))))) = omega arith
 row-fits (suc (suc (suc (suc (suc (suc (suc k))))))) = omega arith
-
-pub key-small : (k : ℕ) → keyBits k ≤ 16384
-unfolding sizesOf
-key-small zero = omega arith
-key-small (suc zero) = omega arith
-key-small (suc (suc zero)) = omega arith
-key-small (suc (suc (suc zero))) = omega arith
-key-small (suc (suc (suc (suc zero)))) = omega arith
-key-small (suc (suc (suc (suc (suc zero))))) = omega arith
-key-small (suc (suc (suc (suc (suc (suc zero)))))) = omega arith
-key-small (suc (suc (suc (suc (suc (suc (suc k))))))) = omega arith
 
 -- a list that passed for a number fails its test at every place
 pub passed : (n l : ℕ) (p : ℕ → Bool) (s : List ℕ) → firstAnswer n l p s ≡ Done → (k : ℕ) → k < length s → p k ≡ false

@@ -80,7 +80,7 @@ pub copy-end : (out ws : List ℕ) (i j : ℕ) → length ws ≤ j → sets out 
 copy-end out ws i j h = rw (drop-of-length-le ws h)
 
 -- ---- header, gates and outputs
-sets-append : (xs l ys : List ℕ) (i : ℕ) → sets l i (xs ++ ys) ≡ sets (sets l i xs) (i + length xs) ys
+pub sets-append : (xs l ys : List ℕ) (i : ℕ) → sets l i (xs ++ ys) ≡ sets (sets l i xs) (i + length xs) ys
 sets-append [] l ys i = let e : i ≡ i + 0 = omega arith in ap (λ (n : ℕ). sets l n ys) e
 sets-append (x ∷ xs) l ys i =
     let e : suc i + length xs ≡ i + suc (length xs) = omega arith in

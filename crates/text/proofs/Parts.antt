@@ -8,13 +8,8 @@ use native.Mathlib.Nat.{zero-add}
 use lib.ListN.{length, getD, set, drop, length-append}
 use lib.Seq.{sets, length-sets, drop-cons, sets-eq}
 use Rattle.answer.specs.Fronts.{over}
+use Rattle.emit.proofs.Puts.{sets-append}
 use Rattle.text.specs.Puts.{Room, Wrote, Left}
-
-sets-append : (xs l ys : List ℕ) (i : ℕ) → sets l i (xs ++ ys) ≡ sets (sets l i xs) (i + length xs) ys
-sets-append [] l ys i = let e : i ≡ i + 0 = omega arith in ap (λ (n : ℕ). sets l n ys) e
-sets-append (x ∷ xs) l ys i =
-    let e : suc i + length xs ≡ i + suc (length xs) = omega arith in
-    sets-append xs (set l i x) ys (suc i) ∙ ap (λ (n : ℕ). sets (sets (set l i x) (suc i) xs) n ys) e
 
 -- nothing changes the length
 pub wrote-size : {text out out′ : List ℕ} {at r : ℕ} → Wrote text out at out′ r → length out′ ≡ length out

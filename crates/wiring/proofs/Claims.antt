@@ -11,7 +11,7 @@ use Rattle.netlist.specs.Words.{words}
 use Rattle.netlist.specs.Sound.{Limits, Sound}
 use Rattle.netlist.proofs.Words.{valid-sound}
 use Rattle.instance.specs.Table.{sizesOf, keyBits}
-use Rattle.instance.proofs.Judged.{row-small}
+use Rattle.instance.proofs.Judged.{key-small, row-small}
 use Rattle.filter.specs.Filter.{tab, ones}
 use Rattle.filter.proofs.Sums.{ones-le}
 use Rattle.wiring.specs.Exp.{chain}
@@ -31,17 +31,6 @@ gates-small (suc (suc (suc zero))) = omega arith
 gates-small (suc (suc (suc (suc zero)))) = omega arith
 gates-small (suc (suc (suc (suc (suc zero))))) = omega arith
 gates-small (suc (suc (suc (suc (suc (suc i)))))) = omega arith
-
-key-small : (inst : ℕ) → keyBits inst ≤ 16384
-unfolding sizesOf
-key-small zero = omega arith
-key-small (suc zero) = omega arith
-key-small (suc (suc zero)) = omega arith
-key-small (suc (suc (suc zero))) = omega arith
-key-small (suc (suc (suc (suc zero)))) = omega arith
-key-small (suc (suc (suc (suc (suc zero))))) = omega arith
-key-small (suc (suc (suc (suc (suc (suc zero)))))) = omega arith
-key-small (suc (suc (suc (suc (suc (suc (suc k))))))) = omega arith
 
 module _ (inst m : ℕ) (idx wh : List ℕ) (low : 1 ≤ inst) (high : inst ≤ 5) (R : Rows inst m idx wh) where
   -- each output is the filter's bit and the record's
