@@ -21,6 +21,12 @@ use Rattle.kreyvium.specs.declared.Block.{Block}
 use Rattle.kreyvium.specs.Kreyvium.{Registers, rounds, stream, streamOf}
 use Rattle.kreyvium.specs.Words.{tops, stateOf}
 use Rattle.kreyvium.proofs.Bits.{tops-decide}
+use Rattle.frames.specs.declared.port.Port.{Port}
+use Rattle.frames.specs.declared.port.Made.{Made}
+use Rattle.frames.specs.declared.port.Found.{Found}
+use Rattle.frames.specs.Frames.{fileAnswer, Appended, AppendedAfter, FramesRead}
+use Rattle.frames.specs.Layout.{portOf, portMade, fieldsAnswer, foundBy, BitsWritten}
+use Rattle.collector.specs.Collector.{AppendedPacked, AppendedAfterPacked, ReadPacked}
 use Rattle.daemon.specs.Packed.{packedOf}
 use Rattle.daemon.specs.Daemon.{Enciphered}
 use Rattle.path.specs.Path.{Scored}
@@ -164,3 +170,49 @@ score-decides inst m key rec idx wh score enc net glued inp vals out x y =
       same-left _ _ e (x .evaluates) (y .evaluates),
       same-left _ _ e (x .scores) (y .scores),
     )
+
+-- files of frames
+pub append-decides : (key rec iv s out : List ℕ) {r q : Answer} {v w : List ℕ} → Appended key rec iv s out r v → Appended key rec iv s out q w → (r ≡ q) × (v ≡ w)
+append-decides key rec iv s out x y =
+    let e = x .answered ∙ sym (y .answered) in
+    (e, same-left _ _ e (x .written) (y .written))
+
+pub append-after-decides : (key rec iv last out : List ℕ) {r q : Answer} {v w : List ℕ}
+    → AppendedAfter key rec iv last out r v → AppendedAfter key rec iv last out q w → (r ≡ q) × (v ≡ w)
+append-after-decides key rec iv last out x y =
+    let e = x .answered ∙ sym (y .answered) in
+    (e, same-left _ _ e (x .written) (y .written))
+
+pub frames-read-decides : (key s out : List ℕ) {r q : Answer} {v w : List ℕ} → FramesRead key s out r v → FramesRead key s out q w → (r ≡ q) × (v ≡ w)
+frames-read-decides key s out x y =
+    let e = x .answered ∙ sym (y .answered) in
+    (e, same-left _ _ e (x .written) (y .written))
+
+pub frames-check-decides : (s : List ℕ) {r q : Answer} → r ≡ fileAnswer 1 s → q ≡ fileAnswer 1 s → r ≡ q
+frames-check-decides s p q = equation-decides (fileAnswer 1 s) p q
+
+-- a port's fields
+pub made-decides : (a b c d e : ℕ) {r s : Made} → r ≡ portMade a b c d e → s ≡ portMade a b c d e → r ≡ s
+made-decides a b c d e p q = equation-decides (portMade a b c d e) p q
+
+pub fields-decides : (b : List ℕ) {r s : Found} → r ≡ foundBy (fieldsAnswer b) (portOf b) → s ≡ foundBy (fieldsAnswer b) (portOf b) → r ≡ s
+fields-decides b p q = equation-decides (foundBy (fieldsAnswer b) (portOf b)) p q
+
+pub bits-decides : (p : Port) (out : List ℕ) {r s : Answer} {v w : List ℕ} → BitsWritten p out r v → BitsWritten p out s w → (r ≡ s) × (v ≡ w)
+bits-decides p out x y =
+    let e = x .answered ∙ sym (y .answered) in
+    (e, same-left _ _ e (x .written) (y .written))
+
+-- the collector's calls
+pub c-append-decides : (key rec iv s out : List ℕ) {r q : ℕ} {v w : List ℕ} → AppendedPacked key rec iv s out r v → AppendedPacked key rec iv s out q w → (r ≡ q) × (v ≡ w)
+c-append-decides key rec iv s out x y = (x .answered ∙ sym (y .answered), x .written ∙ sym (y .written))
+
+pub c-append-after-decides : (key rec iv last out : List ℕ) {r q : ℕ} {v w : List ℕ}
+    → AppendedAfterPacked key rec iv last out r v → AppendedAfterPacked key rec iv last out q w → (r ≡ q) × (v ≡ w)
+c-append-after-decides key rec iv last out x y = (x .answered ∙ sym (y .answered), x .written ∙ sym (y .written))
+
+pub c-read-decides : (key s out : List ℕ) {r q : ℕ} {v w : List ℕ} → ReadPacked key s out r v → ReadPacked key s out q w → (r ≡ q) × (v ≡ w)
+c-read-decides key s out x y = (x .answered ∙ sym (y .answered), x .written ∙ sym (y .written))
+
+pub c-check-decides : (s : List ℕ) {r q : ℕ} → r ≡ packedOf (fileAnswer 1 s) → q ≡ packedOf (fileAnswer 1 s) → r ≡ q
+c-check-decides s p q = equation-decides (packedOf (fileAnswer 1 s)) p q

@@ -4,3 +4,4 @@ pub mod Ciphering
 pub mod Scoring
 pub mod Edges
 pub mod Replies
+pub mod Frames

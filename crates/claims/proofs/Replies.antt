@@ -8,8 +8,8 @@ use Rattle.meter.specs.declared.Level.{Level}
 use Rattle.file.specs.declared.form.Form.the-variants.{Full}
 use Rattle.probe.specs.declared.Reply.{Reply}
 use Rattle.probe.specs.declared.Metering.{Metering}
-use Rattle.probe.specs.Replies.{replyOf, meteringOf, EvaluateReply, MeterReply, GlueReply, ChooseReply, KeystreamReply, CipherReply, EmitReply, ScoreReply, ReadReply, WriteReply}
-use Rattle.claims.proofs.Decides.{evaluate-decides, meter-decides, glue-decides, choose-decides, keystream-decides, cipher-decides, emitted-decides, score-decides, read-decides, write-decides}
+use Rattle.probe.specs.Replies.{replyOf, meteringOf, EvaluateReply, MeterReply, GlueReply, ChooseReply, KeystreamReply, CipherReply, EmitReply, ScoreReply, ReadReply, WriteReply, AppendReply, AppendAfterReply, FramesReply}
+use Rattle.claims.proofs.Decides.{evaluate-decides, meter-decides, glue-decides, choose-decides, keystream-decides, cipher-decides, emitted-decides, score-decides, read-decides, write-decides, append-decides, append-after-decides, frames-read-decides}
 
 told-same : (a b : Answer) {r s : Reply} → r ≡ replyOf a → s ≡ replyOf b → a ≡ b → r ≡ s
 told-same a b p q e = p ∙ ap replyOf e ∙ sym q
@@ -73,3 +73,21 @@ pub meter-reply-decides : (net ds : List ℕ) (ls : List Level) {r s : Metering}
 meter-reply-decides net ds ls x y =
     let d = meter-decides net ds ls (x .outcome) (y .outcome) in
     (x .told ∙ ap meteringOf (d .0) ∙ sym (y .told), d .1, d .2)
+
+pub append-reply-decides : (key rec iv f out : List ℕ) {r s : Reply} {v w : List ℕ}
+    → AppendReply key rec iv f out r v → AppendReply key rec iv f out s w → (r ≡ s) × (v ≡ w)
+append-reply-decides key rec iv f out x y =
+    let d = append-decides key rec iv f out (x .outcome) (y .outcome) in
+    (told-same (x .answer) (y .answer) (x .told) (y .told) (d .0), d .1)
+
+pub append-after-reply-decides : (key rec iv last out : List ℕ) {r s : Reply} {v w : List ℕ}
+    → AppendAfterReply key rec iv last out r v → AppendAfterReply key rec iv last out s w → (r ≡ s) × (v ≡ w)
+append-after-reply-decides key rec iv last out x y =
+    let d = append-after-decides key rec iv last out (x .outcome) (y .outcome) in
+    (told-same (x .answer) (y .answer) (x .told) (y .told) (d .0), d .1)
+
+pub frames-reply-decides : (key f out : List ℕ) {r s : Reply} {v w : List ℕ}
+    → FramesReply key f out r v → FramesReply key f out s w → (r ≡ s) × (v ≡ w)
+frames-reply-decides key f out x y =
+    let d = frames-read-decides key f out (x .outcome) (y .outcome) in
+    (told-same (x .answer) (y .answer) (x .told) (y .told) (d .0), d .1)

@@ -2,8 +2,11 @@
 use Prim.Native.Nat.{ℕ}
 use mathlib.Core.Path.{_≡_}
 use mathlib.Core.List.{List}
+use lib.ListN.{length}
 use Rattle.answer.specs.declared.Answer.{Answer}
 use Rattle.answer.specs.Answers.{numberOf, listOf, placeOf}
+use Rattle.answer.specs.Fronts.{left}
+use Rattle.instance.specs.Judging.{roomAnswer}
 use Rattle.evaluate.specs.Evaluate.{Evaluated}
 use Rattle.meter.specs.declared.Level.{Level}
 use Rattle.meter.specs.declared.Metered.{Metered}
@@ -16,8 +19,16 @@ use Rattle.emit.specs.Emit.{Emitted}
 use Rattle.path.specs.Path.{Scored}
 use Rattle.file.specs.declared.form.Form.the-variants.{Full}
 use Rattle.file.specs.File.{ReadAs, WrittenAs}
+use Rattle.frames.specs.declared.port.Made.{Made}
+use Rattle.frames.specs.declared.port.Made.the-variants.{Fitting, TooLarge}
+use Rattle.frames.specs.declared.port.Found.{Found}
+use Rattle.frames.specs.declared.port.Found.the-variants as found
+use Rattle.frames.specs.Frames.{Appended, AppendedAfter, FramesRead}
+use Rattle.frames.specs.Layout.{bitsOf}
 use Rattle.probe.specs.declared.Reply.{Reply}
 use Rattle.probe.specs.declared.Metering.{Metering}
+use Rattle.probe.specs.declared.Fielding.{Fielding}
+use Rattle.probe.specs.declared.Putting.{Putting}
 
 unfoldable pub replyOf : Answer → Reply
 replyOf a = record { number = numberOf a; list = listOf a; place = placeOf a }
@@ -81,3 +92,55 @@ pub record WriteReply (net out : List ℕ) (r : Reply) (out′ : List ℕ) : Typ
   pub answer : Answer
   pub outcome : WrittenAs Full net out answer out′
   pub told : r ≡ replyOf answer
+
+pub record AppendReply (key rec iv s out : List ℕ) (r : Reply) (out′ : List ℕ) : Type 0 where
+  pub answer : Answer
+  pub outcome : Appended key rec iv s out answer out′
+  pub told : r ≡ replyOf answer
+
+pub record AppendAfterReply (key rec iv last out : List ℕ) (r : Reply) (out′ : List ℕ) : Type 0 where
+  pub answer : Answer
+  pub outcome : AppendedAfter key rec iv last out answer out′
+  pub told : r ≡ replyOf answer
+
+pub record FramesReply (key s out : List ℕ) (r : Reply) (out′ : List ℕ) : Type 0 where
+  pub answer : Answer
+  pub outcome : FramesRead key s out answer out′
+  pub told : r ≡ replyOf answer
+
+-- a port's fields, or the refusal
+unfoldable pub fieldingOf : Found → Fielding
+fieldingOf (found.Record p) = record {
+  number = 0;
+  list = 0;
+  place = 0;
+  port = p .number;
+  admin = p .admin;
+  link = p .link;
+  errors = p .errors;
+  load = p .load;
+}
+fieldingOf (found.Refused number list place) = record {
+  number = number;
+  list = list;
+  place = place;
+  port = 0;
+  admin = 0;
+  link = 0;
+  errors = 0;
+  load = 0;
+}
+
+-- what writing the bits of a port answers, where n places are lent, and leaves; a value that is too large writes nothing
+unfoldable pub puttingOf : Made → ℕ → Putting
+puttingOf (TooLarge f) n = record { number = 0; list = 0; place = 0; field = f }
+puttingOf (Fitting p) n = record {
+  number = numberOf (roomAnswer 1 n 64);
+  list = listOf (roomAnswer 1 n 64);
+  place = placeOf (roomAnswer 1 n 64);
+  field = 0;
+}
+
+unfoldable pub bitsLeft : Made → List ℕ → List ℕ
+bitsLeft (TooLarge f) out = out
+bitsLeft (Fitting p) out = left (roomAnswer 1 (length out) 64) (bitsOf p) out

@@ -1,6 +1,9 @@
 // The public calls, exported for the tests and the demonstration. Lists pass as a pointer and a length, an answer as its
 // number, list and place: 0, 0, 0 for done.
 use answer::Answer;
+use frames::port::Found;
+use frames::port::Made;
+use frames::port::Port;
 use meter::Level;
 use meter::Metered;
 ghost use mathlib.Core.Path.{_≡_};
@@ -11,7 +14,9 @@ ghost use Rattle.emit.specs.Emit.{oneHotAnswer, thresholdAnswer, decipherNet, d
 ghost use Rattle.file.specs.File.{checkAnswer};
 ghost use Rattle.file.specs.declared.form.Form.the-variants.{Full};
 ghost use Rattle.text.specs.Text.{Printed};
-ghost use Rattle.probe.specs.Replies.{replyOf, meteringOf, EvaluateReply, MeterReply, GlueReply, ChooseReply, KeystreamReply, CipherReply, EmitReply, ScoreReply, ReadReply, WriteReply};
+ghost use Rattle.frames.specs.Frames.{fileAnswer};
+ghost use Rattle.frames.specs.Layout.{portOf, portMade, fieldsAnswer, foundBy};
+ghost use Rattle.probe.specs.Replies.{replyOf, meteringOf, EvaluateReply, MeterReply, GlueReply, ChooseReply, KeystreamReply, CipherReply, EmitReply, ScoreReply, ReadReply, WriteReply, AppendReply, AppendAfterReply, FramesReply, fieldingOf, puttingOf, bitsLeft};
 
 #[repr(C)]
 pub struct Reply {
@@ -27,6 +32,28 @@ pub struct Metering {
     pub place: usize,
     pub depth: u32,
     pub multiplications: u32,
+}
+
+// A port's fields, all 0 on a refusal.
+#[repr(C)]
+pub struct Fielding {
+    pub number: u32,
+    pub list: u32,
+    pub place: usize,
+    pub port: u32,
+    pub admin: u32,
+    pub link: u32,
+    pub errors: u32,
+    pub load: u32,
+}
+
+// An answer, and which field's value is too large: 0 for none.
+#[repr(C)]
+pub struct Putting {
+    pub number: u32,
+    pub list: u32,
+    pub place: usize,
+    pub field: u32,
 }
 
 fn told(answer: Answer) -> Reply
@@ -237,4 +264,113 @@ pub extern "C" fn probe_print(input: &[u8], result: &mut [u8]) -> usize
     ensures { λ r. ⌜ Printed (now (input .entry)) (now (result .entry)) r (now (result .exit)) ⌝ }
 {
     text::print_text(input, result)
+}
+
+#[no_mangle]
+pub extern "C" fn probe_append(
+    key: &[u8],
+    record: &[u8],
+    iv: &[u8],
+    file: &[u8],
+    frame: &mut [u8],
+) -> Reply
+    ensures { λ r. ⌜ AppendReply (now (key .entry)) (now («record» .entry)) (now (iv .entry)) (now (file .entry)) (now (frame .entry)) r (now (frame .exit)) ⌝ }
+{
+    told(frames::append(key, record, iv, file, frame))
+}
+
+#[no_mangle]
+pub extern "C" fn probe_append_after(
+    key: &[u8],
+    record: &[u8],
+    iv: &[u8],
+    last: &[u8],
+    frame: &mut [u8],
+) -> Reply
+    ensures { λ r. ⌜ AppendAfterReply (now (key .entry)) (now («record» .entry)) (now (iv .entry)) (now (last .entry)) (now (frame .entry)) r (now (frame .exit)) ⌝ }
+{
+    told(frames::append_after(key, record, iv, last, frame))
+}
+
+#[no_mangle]
+pub extern "C" fn probe_read_frames(key: &[u8], file: &[u8], records: &mut [u8]) -> Reply
+    ensures { λ r. ⌜ FramesReply (now (key .entry)) (now (file .entry)) (now (records .entry)) r (now (records .exit)) ⌝ }
+{
+    told(frames::read(key, file, records))
+}
+
+#[no_mangle]
+pub extern "C" fn probe_check_frames(file: &[u8]) -> Reply
+    ensures { λ r. ⌜ r ≡ replyOf (fileAnswer 1 (now (file .entry))) ⌝ }
+{
+    told(frames::check(file))
+}
+
+fn fielding_of(found: Found) -> Fielding
+    ensures { λ r. ⌜ r ≡ fieldingOf found ⌝ }
+{
+    match found {
+        Found::Record(port) => Fielding {
+            number: 0,
+            list: 0,
+            place: 0,
+            port: port.number(),
+            admin: port.admin_up(),
+            link: port.link_up(),
+            errors: port.errors(),
+            load: port.load(),
+        },
+        Found::Refused {
+            number,
+            list,
+            place,
+        } => Fielding {
+            number,
+            list,
+            place,
+            port: 0,
+            admin: 0,
+            link: 0,
+            errors: 0,
+            load: 0,
+        },
+    }
+}
+
+#[no_mangle]
+pub extern "C" fn probe_fields(bits: &[u8]) -> Fielding
+    ensures { λ r. ⌜ r ≡ fieldingOf (foundBy (fieldsAnswer (now (bits .entry))) (portOf (now (bits .entry)))) ⌝ }
+{
+    fielding_of(frames::port::fields(bits))
+}
+
+#[no_mangle]
+pub extern "C" fn probe_bits(
+    port: u32,
+    admin: u32,
+    link: u32,
+    errors: u32,
+    load: u32,
+    result: &mut [u8],
+) -> Putting
+    ensures { λ r. ⌜ (r ≡ puttingOf (portMade port admin link errors load) (length (now (result .entry)))) × (now (result .exit) ≡ bitsLeft (portMade port admin link errors load) (now (result .entry))) ⌝ }
+{
+    let made = Port::new(port, admin, link, errors, load);
+    match made {
+        Made::TooLarge(field) => Putting {
+            number: 0,
+            list: 0,
+            place: 0,
+            field,
+        },
+        Made::Fitting(p) => {
+            let reply = told(frames::port::bits(p, result));
+            Putting {
+                number: reply.number,
+                list: reply.list,
+                place: reply.place,
+                field: 0,
+            }
+        }
+    }
 }

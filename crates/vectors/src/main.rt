@@ -2,11 +2,13 @@
 // compute them. Each line says where its vector is from. The file `stdout` was written from those
 // sources, and what is printed must equal it.
 //
-// Documents: 000 (FLIP), 003 (Kreyvium), 01 (the rules). A list of bits is printed with commas; a key, an
-// IV and a keystream as bytes in hexadecimal, the low bit of each byte first.
+// Documents: 000 (FLIP), 003 (Kreyvium), 01 (the rules), 02 (the changes). A list of bits is printed with
+// commas; a key, an IV and a keystream as bytes in hexadecimal, the low bit of each byte first in Kreyvium's
+// public vectors and the high bit in frames.
 mod choice_lines;
 mod file_lines;
 mod filter_lines;
+mod frame_lines;
 mod kreyvium_lines;
 mod netlist_lines;
 mod reversed;
@@ -18,4 +20,5 @@ fn main() {
     netlist_lines::print();
     choice_lines::print();
     file_lines::print();
+    frame_lines::print();
 }

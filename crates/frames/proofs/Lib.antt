@@ -1,0 +1,10 @@
+pub mod Digits
+pub mod Parts
+pub mod Turned
+pub mod Reversal
+pub mod Spreading
+pub mod Sealing
+pub mod Judged
+pub mod Places
+pub mod Appending
+pub mod Layouts

@@ -1,0 +1,100 @@
+use Prim.Native.Nat.{ℕ, _+_, _*_}
+use mathlib.Core.Path.{_≡_, refl}
+use mathlib.Core.List.{List}
+use native.Mathlib.Omega.{arith}
+use lib.ListN.{getD}
+use denote.Ref.{now}
+use Rattle.frames.specs.Inner.{apart}
+use borrow.Author.Needs.{needs}
+use Rattle.frames.proofs.bytes.four.Statement.{statement}
+use Rattle.frames.proofs.bytes.four.Tie as tie
+
+sum : (s : List ℕ) (at a b d e : ℕ) → a ≡ getD s at 0 → b ≡ getD s (at + 1) 0 → d ≡ getD s (at + 2) 0 → e ≡ getD s (at + 3) 0
+    → a + b * 256 + d * 65536 + e * 16777216 ≡ apart s at
+unfolding apart
+sum s at a b d e f g h i = rw (f, g, h, i) refl
+
+shared-slice-read-wide : tie.Need-shared-slice-read-wide
+shared-slice-read-wide c = search needs
+
+wide-requires : tie.Need-wide-requires
+wide-requires c κs = search needs
+
+add-wide : tie.Need-add-wide
+add-wide c = search needs
+
+shared-slice-read-wide-2 : tie.Need-shared-slice-read-wide-2
+shared-slice-read-wide-2 c = search needs
+
+wide-requires-2 : tie.Need-wide-requires-2
+wide-requires-2 c κs = search needs
+
+mul-result : tie.Need-mul-result
+mul-result c = search needs
+
+add-result : tie.Need-add-result
+add-result c = search needs
+
+add-wide-2 : tie.Need-add-wide-2
+add-wide-2 c = search needs
+
+shared-slice-read-wide-3 : tie.Need-shared-slice-read-wide-3
+shared-slice-read-wide-3 c = search needs
+
+wide-requires-3 : tie.Need-wide-requires-3
+wide-requires-3 c κs = search needs
+
+mul-result-2 : tie.Need-mul-result-2
+mul-result-2 c = search needs
+
+add-result-2 : tie.Need-add-result-2
+add-result-2 c = search needs
+
+add-wide-3 : tie.Need-add-wide-3
+add-wide-3 c = search needs
+
+shared-slice-read-wide-4 : tie.Need-shared-slice-read-wide-4
+shared-slice-read-wide-4 c = search needs
+
+wide-requires-4 : tie.Need-wide-requires-4
+wide-requires-4 c κs = search needs
+
+mul-result-3 : tie.Need-mul-result-3
+mul-result-3 c = search needs
+
+add-result-3 : tie.Need-add-result-3
+add-result-3 c = search needs
+
+returns : tie.Need-returns
+returns c =
+    let d = c .before .before in
+    let b = d .before .before in
+    let a = b .before .before in
+    let s = a .before .before .before in
+    let at = s .args .at in (
+      sum (now (s .args .s)) at _ _ _ _ (a .wide .ensures .0) (b .wide2 .ensures .0) (d .wide3 .ensures .0) (c .wide4 .ensures .0),
+      omega (arith, a .wide .ensures .0, b .wide2 .ensures .0, d .wide3 .ensures .0, c .wide4 .ensures .0, s .pre .1 at, s .pre .1 (at + 1), s .pre .1 (at + 2), s .pre .1 (at + 3)),
+    )
+
+pub four-spec : {M : Type 1} → statement M
+four-spec =
+    tie.close
+    (tie.spec
+    shared-slice-read-wide
+    wide-requires
+    add-wide
+    shared-slice-read-wide-2
+    wide-requires-2
+    mul-result
+    add-result
+    add-wide-2
+    shared-slice-read-wide-3
+    wide-requires-3
+    mul-result-2
+    add-result-2
+    add-wide-3
+    shared-slice-read-wide-4
+    wide-requires-4
+    mul-result-3
+    add-result-3
+    returns)

@@ -1,0 +1,5 @@
+pub mod Bytes
+pub mod Frames
+pub mod Lent
+pub mod Layout
+pub mod Inner
