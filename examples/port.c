@@ -2,7 +2,7 @@
  * The whole path of a port record, scored twice. A switch enciphers the record. The service has the netlist that deciphers
  * it, glues a scoring netlist behind that one and evaluates both as one on the key and the enciphered record. In the service
  * this happens under homomorphic encryption, on bits that nobody there can read; here it happens on bits in the clear, beside
- * the scores of the plain record.
+ * the scores of the plain record. With Kreyvium the record's frame is shown too, as a collector's file would begin with it.
  *
  *     port [PORT ADMIN-UP LINK-UP ERRORS LOAD]
  *
@@ -20,7 +20,7 @@ enum { ACCEPTED = 0, REFUSED = 1, NO_RECORD = 2 };
 
 /* ---- the record */
 
-enum { FIELDS = 5, RECORD_BITS = 64 };
+enum { FIELDS = 5 };
 
 /* The fields in their order, each high bit first. The sample is a dead uplink. */
 static struct {
@@ -130,12 +130,15 @@ static const char *const refusals[] = {
     [10] = "the scoring netlist takes another number of bits",
     [11] = "there are too many gates",
     [14] = "a draw leads beyond the key",
+    [15] = "a frame's mark is wrong, or it is cut",
+    [16] = "the IV is not above the one before",
 };
 
 /* The lists of each call, as its answer counts them. */
 static const char *const choose_lists[] = {"", "draws", "row"};
 static const char *const evaluate_lists[] = {"", "scoring netlist", "record", "wires", "scores"};
 static const char *const meter_lists[] = {"", "netlist", "depths", "levels"};
+static const char *const append_lists[] = {"", "key", "record", "IV", "file", "frame"};
 static const char *const score_lists[] = {
     "", "key", "record", "indices", "whitening or IV", "enciphered record", "deciphering netlist", "scoring netlist",
     "glued netlist", "inputs", "wires", "scores",
@@ -218,6 +221,28 @@ static bool show_costs(const char *name, const uint32_t *net)
     return true;
 }
 
+/* The first frame of a file: mark, IV and enciphered record. */
+static bool show_frame(void)
+{
+    static const int starts[] = {0, 2, 18, FRAME_SIZE};
+    uint8_t frame[FRAME_SIZE];
+
+    struct reply made = probe_append(key, instances[KREYVIUM - 1].key, record, RECORD_BITS, whitening, IV_BITS, NULL, 0, frame,
+                                     FRAME_SIZE);
+    if (!done("append", append_lists, made.number, made.list, made.place)) {
+        return false;
+    }
+    printf("  frame       ");
+    for (int part = 0; part < 3; part++) {
+        putchar(' ');
+        for (int i = starts[part]; i < starts[part + 1]; i++) {
+            printf("%02X", frame[i]);
+        }
+    }
+    putchar('\n');
+    return true;
+}
+
 static bool show_path(uint32_t instance)
 {
     size_t places = RECORD_BITS * (size_t)instances[instance - 1].row;
@@ -243,6 +268,9 @@ static bool show_path(uint32_t instance)
     print_bits(record, RECORD_BITS);
     printf("  enciphered   ");
     print_bits(enciphered, RECORD_BITS);
+    if (instance == KREYVIUM && !show_frame()) {
+        return false;
+    }
     printf("\n  %-32s%8s%8s%19s\n", "netlist", "gates", "depth", "multiplications");
     if (!show_costs("deciphering", deciphering) || !show_costs("deciphering, then scoring", glued)) {
         return false;

@@ -13,6 +13,9 @@
 
 enum { FILIP_144 = 5, KREYVIUM = 6, INSTANCES = 6, LARGEST_KEY = 16384, LARGEST_ROW = 1394, IV_BITS = 128 };
 
+/* A port record, and the frame in which a collector keeps it. */
+enum { RECORD_BITS = 64, FRAME_SIZE = 26 };
+
 /* Instance i is instances[i - 1]. Kreyvium has no rows. */
 static const struct {
     const char *name;
@@ -65,6 +68,15 @@ typedef struct reply cipher_call(uint32_t instance, uint32_t m, const uint8_t *k
                                  size_t bits, const uint32_t *indices, size_t places, const uint8_t *whitening,
                                  size_t whites, uint8_t *result, size_t room);
 cipher_call probe_encipher, probe_decipher;
+
+/* A frame for a record, to stand behind a file or behind its last frame. */
+typedef struct reply append_call(const uint8_t *key, size_t key_bits, const uint8_t *record, size_t record_bits,
+                                 const uint8_t *iv, size_t iv_bits, const uint8_t *file, size_t file_bytes, uint8_t *frame,
+                                 size_t room);
+append_call probe_append, probe_append_after;
+
+struct reply probe_read_frames(const uint8_t *key, size_t key_bits, const uint8_t *file, size_t file_bytes, uint8_t *records,
+                               size_t room);
 
 struct reply probe_emit_decipher(uint32_t instance, uint32_t m, const uint32_t *indices, size_t places,
                                  const uint8_t *whitening, size_t whites, uint32_t *net, size_t words);

@@ -1,4 +1,4 @@
-// Cipher calls on a key and a record whose low bits valgrind's memcheck holds for undefined: it reports each
+// Cipher calls and calls on frames, on a key and a record whose low bits valgrind's memcheck holds for undefined: it reports each
 // jump and each address that depends on one of them. tests/secrets runs this and compares the reports.
 //
 //   secrets judged   every call is refused for want of room, which is judged last
@@ -46,6 +46,19 @@ static void calls(uint32_t instance, size_t room) {
        probe_decipher(instance, ROWS, key, keys, record, ROWS, indices, places, whitening, whites, result, room));
 }
 
+// Frames: a record appended to an empty file and behind a last frame, and a file of one frame read.
+static void frame_calls(int room) {
+  static uint8_t bits[RECORD_BITS], iv[IV_BITS] = {1}, frame[FRAME_SIZE], records[RECORD_BITS];
+  static const uint8_t file[FRAME_SIZE] = "PT";
+  size_t keys = instances[KREYVIUM - 1].key, frame_room = room ? FRAME_SIZE : 0, record_room = room ? RECORD_BITS : 0;
+  hide_low_bits(key, keys);
+  hide_low_bits(bits, RECORD_BITS);
+  tell("append", KREYVIUM, probe_append(key, keys, bits, RECORD_BITS, iv, IV_BITS, NULL, 0, frame, frame_room));
+  tell("append after", KREYVIUM,
+       probe_append_after(key, keys, bits, RECORD_BITS, iv, IV_BITS, file, FRAME_SIZE, frame, frame_room));
+  tell("read", KREYVIUM, probe_read_frames(key, keys, file, FRAME_SIZE, records, record_room));
+}
+
 int main(int argc, char **argv) {
   const char *mode = argc == 2 ? argv[1] : "";
   int whole = strcmp(mode, "whole") == 0, leaky = strcmp(mode, "leaky") == 0;
@@ -53,6 +66,7 @@ int main(int argc, char **argv) {
     return 2;
   for (uint32_t instance = 1; instance <= INSTANCES; instance++)
     calls(instance, whole ? ROWS : 0);
+  frame_calls(whole);
   if (leaky && *(volatile uint8_t *)key)
     puts("the first key bit is 1");
   return 0;
