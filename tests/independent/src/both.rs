@@ -1,7 +1,9 @@
-//! The netlist and file calls handed to both programs: each has the same lists,
-//! and the whole answer and every lent list are compared.
+//! The netlist, file and frame calls handed to both programs: each has the same
+//! lists, and the whole answer and every lent list are compared.
 
 use crate::file::{self, GATE_BYTES, HEADER_BYTES, OUTPUT_BYTES};
+use crate::frame_cases::{Appending, Reading};
+use crate::frames::{self, Fields, Put, Taken, FRAME, RECORD};
 use crate::lent::{show, Lent};
 use crate::netlist::{self, length, Answer, Level, Metering, HEADER};
 use crate::probe;
@@ -247,4 +249,123 @@ pub fn file_of(net: &[u32]) -> Vec<u8> {
     let written = write_file(net, &vec![7; file_length(net)]);
     assert_eq!(written.answer, Answer::DONE);
     written.bytes
+}
+
+/// Hands an appending to a file to both programs; what the frame then holds.
+pub fn append(appending: &Appending) -> Written {
+    hand_appending(appending, "a file", probe::append, frames::append)
+}
+
+/// An appending after a last frame.
+pub fn append_after(appending: &Appending) -> Written {
+    hand_appending(
+        appending,
+        "a last frame",
+        probe::append_after,
+        frames::append_after,
+    )
+}
+
+type Append = fn(&[u8], &[u8], &[u8], &[u8], &mut [u8]) -> Answer;
+
+fn hand_appending(appending: &Appending, to: &str, library: Append, rust: Append) -> Written {
+    let case = || {
+        format!(
+            "appending to {to}, {}: key {}, record {}, IV {}, room for {}",
+            show(&appending.file),
+            show(&appending.key),
+            show(&appending.record),
+            show(&appending.iv),
+            appending.frame.len()
+        )
+    };
+    let (mut key, mut record) = (Lent::new(&appending.key), Lent::new(&appending.record));
+    let (mut iv, mut file) = (Lent::new(&appending.iv), Lent::new(&appending.file));
+    let mut frame = Lent::new(&appending.frame);
+    let library = library(
+        key.library(),
+        record.library(),
+        iv.library(),
+        file.library(),
+        frame.library(),
+    );
+    let rust = rust(
+        key.rust(),
+        record.rust(),
+        iv.rust(),
+        file.rust(),
+        frame.rust(),
+    );
+    assert_eq!(library, rust, "library, rust; {}", case());
+    let written = match rust {
+        Answer::DONE => FRAME,
+        _ => 0,
+    };
+    key.settle(0, "key bits", &case);
+    record.settle(0, "record bits", &case);
+    iv.settle(0, "IV bits", &case);
+    file.settle(0, "file", &case);
+    Written {
+        answer: rust,
+        bytes: frame.settle(written, "frame", &case),
+    }
+}
+
+/// What the records then hold.
+pub fn read_frames(reading: &Reading) -> Written {
+    let case = || {
+        format!(
+            "reading of the frames {}: key {}, room for {}",
+            show(&reading.file),
+            show(&reading.key),
+            reading.records.len()
+        )
+    };
+    let (mut key, mut file) = (Lent::new(&reading.key), Lent::new(&reading.file));
+    let mut records = Lent::new(&reading.records);
+    let library = probe::read_frames(key.library(), file.library(), records.library());
+    let rust = frames::read(key.rust(), file.rust(), records.rust());
+    assert_eq!(library, rust, "library, rust; {}", case());
+    let written = match rust {
+        Answer::DONE => RECORD * (reading.file.len() / FRAME),
+        _ => 0,
+    };
+    key.settle(0, "key bits", &case);
+    file.settle(0, "file", &case);
+    Written {
+        answer: rust,
+        bytes: records.settle(written, "records", &case),
+    }
+}
+
+pub fn check_frames(file: &[u8]) -> Answer {
+    let case = || format!("check of the frames {}", show(file));
+    let mut lent = Lent::new(file);
+    let library = probe::check_frames(lent.library());
+    let rust = frames::check(lent.rust());
+    assert_eq!(library, rust, "library, rust; {}", case());
+    lent.settle(0, "file", &case);
+    rust
+}
+
+pub fn fields(bits: &[u8]) -> Taken {
+    let case = || format!("fields of {}", show(bits));
+    let mut lent = Lent::new(bits);
+    let library = probe::fields(lent.library());
+    let rust = frames::fields(lent.rust());
+    assert_eq!(library, rust, "library, rust; {}", case());
+    lent.settle(0, "bits", &case);
+    rust
+}
+
+/// The answer, and what the result then holds.
+pub fn bits(fields: &Fields, result: &[u8]) -> (Put, Vec<u8>) {
+    let case = || format!("bits of {fields:?}, room for {}", result.len());
+    let mut lent = Lent::new(result);
+    let library = probe::bits(fields, lent.library());
+    let rust = frames::bits(fields, lent.rust());
+    assert_eq!(library, rust, "library, rust; {}", case());
+    let done = rust.answer == Answer::DONE && rust.too_large == 0;
+    let written = if done { RECORD } else { 0 };
+    (rust, lent.settle(written, "result", &case))
 }

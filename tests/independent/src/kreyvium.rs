@@ -32,7 +32,11 @@ pub struct Rounds {
 
 impl Rounds {
     pub fn new(key: &[u8; BITS], iv: &[u8; BITS]) -> Self {
-        let (key, iv) = (pack(key), pack(iv));
+        Self::packed(pack(key), pack(iv))
+    }
+
+    /// Of a key and an IV that are words, the first bit in the highest place.
+    pub fn packed(key: u128, iv: u128) -> Self {
         Rounds {
             first: key,
             second: iv,
@@ -82,20 +86,26 @@ const fn enter(register: u128, bits: u64) -> u128 {
 }
 
 /// 128 bits in a word, the first in the highest place.
-fn pack(bits: &[u8; BITS]) -> u128 {
+pub fn pack(bits: &[u8; BITS]) -> u128 {
+    let (halves, _) = bits.as_chunks::<64>();
+    u128::from(pack_half(&halves[0])) << 64 | u128::from(pack_half(&halves[1]))
+}
+
+/// 64 bits alike.
+pub fn pack_half(bits: &[u8; 64]) -> u64 {
     let (eights, _) = bits.as_chunks::<8>();
-    let mut bytes = [0; BITS / 8];
+    let mut bytes = [0; 8];
     for (byte, eight) in bytes.iter_mut().zip(eights) {
         // Bit 8i of the factor goes to bit 56 + i of the product, and nothing
         // else goes there.
         let spread = u64::from_be_bytes(*eight);
         *byte = (spread.wrapping_mul(0x0102_0408_1020_4080) >> 56) as u8;
     }
-    u128::from_be_bytes(bytes)
+    u64::from_be_bytes(bytes)
 }
 
 /// The 64 bits of a word, the lowest first.
-fn unpack(word: u64) -> [u8; 64] {
+pub fn unpack(word: u64) -> [u8; 64] {
     const EACH: u64 = 0x0101_0101_0101_0101;
     let mut bits = [0; 64];
     let (eights, _) = bits.as_chunks_mut::<8>();
@@ -109,11 +119,16 @@ fn unpack(word: u64) -> [u8; 64] {
 
 /// The first 64 bits of keystream.
 pub fn first_bits(key: &[u8; BITS], iv: &[u8; BITS]) -> [u8; 64] {
-    let mut rounds = Rounds::new(key, iv);
+    unpack(first_word(pack(key), pack(iv)))
+}
+
+/// The same in a word, the first in the lowest place.
+pub fn first_word(key: u128, iv: u128) -> u64 {
+    let mut rounds = Rounds::packed(key, iv);
     for _ in 0..SILENT / 64 {
         rounds.block();
     }
-    unpack(rounds.block())
+    rounds.block()
 }
 
 /// Fills `keystream`, a round at a time and every register as it stands in

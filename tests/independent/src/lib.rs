@@ -5,15 +5,17 @@
 //! [`cipher`] the three cipher calls (keystream, encipher, decipher) over
 //! [`filter`] and [`kreyvium`], [`choice`] the choice of rows, [`emission`]
 //! the emission of one-hot, threshold and deciphering netlists, [`file`] the
-//! netlist file, [`path`] the whole path of a record, [`daemon`] the daemon's
-//! two calls, and [`printing`] the printing program. They are written from the
-//! rules alone and share no line with the library under test. [`definitions`]
-//! holds the ciphers, the choice, the emitted netlists and the file a second
+//! netlist file, [`path`] the whole path of a record, [`frames`] the file of
+//! port records, [`daemon`] and [`collector`] the calls of the two C programs,
+//! and [`printing`] the printing program. They are written from the rules alone
+//! and share no line with the library under test. [`definitions`] holds the
+//! ciphers, the choice, the emitted netlists, the file and the frames a second
 //! time, plain and slow. [`probe`] reaches the library through its C interface,
-//! [`sallowknot`] the daemon's, and [`both`] hands a netlist or file call to both
-//! programs. [`cases`], [`cipher_cases`], [`emission_cases`], [`path_cases`] and
-//! [`file_cases`] make sound and damaged lists from the numbers of [`random`];
-//! [`lent`] and [`tally`] compare and count.
+//! [`sallowknot`] that of the daemon and the collector, and [`both`] hands a
+//! netlist, file or frame call to both programs. [`cases`], [`cipher_cases`],
+//! [`emission_cases`], [`path_cases`], [`file_cases`] and [`frame_cases`] make
+//! sound and damaged lists from the numbers of [`random`]; [`lent`] and
+//! [`tally`] compare and count.
 //!
 //! The tests hand both programs the same lists and compare the whole answer
 //! and every lent list; the program `bench` times both on the same lists, and
@@ -24,6 +26,7 @@ pub mod cases;
 pub mod choice;
 pub mod cipher;
 pub mod cipher_cases;
+pub mod collector;
 pub mod daemon;
 pub mod definitions;
 pub mod emission;
@@ -31,6 +34,8 @@ pub mod emission_cases;
 pub mod file;
 pub mod file_cases;
 pub mod filter;
+pub mod frame_cases;
+pub mod frames;
 pub mod kreyvium;
 pub mod lent;
 pub mod netlist;

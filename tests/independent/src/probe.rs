@@ -1,6 +1,7 @@
 //! The library under test, through its C interface: a list goes over as its
 //! first place and its length.
 
+use crate::frames::{Fields, Put, Taken};
 use crate::netlist::{Answer, Level, Metering};
 use crate::path::{Read, Rooms};
 use std::mem::MaybeUninit;
@@ -19,6 +20,22 @@ struct RawMetering {
     place: usize,
     depth: u32,
     multiplications: u32,
+}
+
+#[repr(C)]
+struct RawFields {
+    number: u32,
+    list: u32,
+    place: usize,
+    fields: Fields,
+}
+
+#[repr(C)]
+struct RawPut {
+    number: u32,
+    list: u32,
+    place: usize,
+    too_large: u32,
 }
 
 extern "C" {
@@ -173,6 +190,61 @@ extern "C" {
         result: *mut u8,
         result_length: usize,
     ) -> usize;
+
+    fn probe_append(
+        key: *const u8,
+        key_length: usize,
+        record: *const u8,
+        record_length: usize,
+        iv: *const u8,
+        iv_length: usize,
+        file: *const u8,
+        file_length: usize,
+        frame: *mut u8,
+        frame_length: usize,
+    ) -> RawReply;
+
+    fn probe_append_after(
+        key: *const u8,
+        key_length: usize,
+        record: *const u8,
+        record_length: usize,
+        iv: *const u8,
+        iv_length: usize,
+        last: *const u8,
+        last_length: usize,
+        frame: *mut u8,
+        frame_length: usize,
+    ) -> RawReply;
+
+    fn probe_read_frames(
+        key: *const u8,
+        key_length: usize,
+        file: *const u8,
+        file_length: usize,
+        records: *mut u8,
+        records_length: usize,
+    ) -> RawReply;
+
+    fn probe_check_frames(file: *const u8, file_length: usize) -> RawReply;
+
+    /// Returned as by `probe_meter`.
+    fn probe_fields(
+        returned: *mut RawFields,
+        bits: *const u8,
+        bits_length: usize,
+    ) -> *mut RawFields;
+
+    fn probe_bits(
+        returned: *mut RawPut,
+        port: u32,
+        admin_up: u32,
+        link_up: u32,
+        errors: u32,
+        load: u32,
+        result: *mut u8,
+        result_length: usize,
+    ) -> *mut RawPut;
 }
 
 impl From<RawReply> for Answer {
@@ -447,5 +519,107 @@ pub fn print(input: &[u8], result: &mut [u8]) -> usize {
             result.as_mut_ptr(),
             result.len(),
         )
+    }
+}
+
+pub fn append(key: &[u8], record: &[u8], iv: &[u8], file: &[u8], frame: &mut [u8]) -> Answer {
+    // SAFETY: as in `check`.
+    unsafe {
+        probe_append(
+            key.as_ptr(),
+            key.len(),
+            record.as_ptr(),
+            record.len(),
+            iv.as_ptr(),
+            iv.len(),
+            file.as_ptr(),
+            file.len(),
+            frame.as_mut_ptr(),
+            frame.len(),
+        )
+    }
+    .into()
+}
+
+pub fn append_after(key: &[u8], record: &[u8], iv: &[u8], last: &[u8], frame: &mut [u8]) -> Answer {
+    // SAFETY: as in `check`.
+    unsafe {
+        probe_append_after(
+            key.as_ptr(),
+            key.len(),
+            record.as_ptr(),
+            record.len(),
+            iv.as_ptr(),
+            iv.len(),
+            last.as_ptr(),
+            last.len(),
+            frame.as_mut_ptr(),
+            frame.len(),
+        )
+    }
+    .into()
+}
+
+pub fn read_frames(key: &[u8], file: &[u8], records: &mut [u8]) -> Answer {
+    // SAFETY: as in `check`.
+    unsafe {
+        probe_read_frames(
+            key.as_ptr(),
+            key.len(),
+            file.as_ptr(),
+            file.len(),
+            records.as_mut_ptr(),
+            records.len(),
+        )
+    }
+    .into()
+}
+
+pub fn check_frames(file: &[u8]) -> Answer {
+    // SAFETY: as in `check`.
+    unsafe { probe_check_frames(file.as_ptr(), file.len()) }.into()
+}
+
+pub fn fields(bits: &[u8]) -> Taken {
+    let mut returned = MaybeUninit::uninit();
+    // SAFETY: as in `meter`.
+    let raw = unsafe {
+        probe_fields(returned.as_mut_ptr(), bits.as_ptr(), bits.len());
+        returned.assume_init()
+    };
+    Taken {
+        answer: Answer {
+            number: raw.number,
+            list: raw.list,
+            place: raw.place,
+        },
+        fields: raw.fields,
+    }
+}
+
+pub fn bits(fields: &Fields, result: &mut [u8]) -> Put {
+    let [port, admin_up, link_up, errors, load] = *fields;
+    let mut returned = MaybeUninit::uninit();
+    // SAFETY: as in `meter`.
+    let raw = unsafe {
+        probe_bits(
+            returned.as_mut_ptr(),
+            port,
+            admin_up,
+            link_up,
+            errors,
+            load,
+            result.as_mut_ptr(),
+            result.len(),
+        );
+        returned.assume_init()
+    };
+    Put {
+        answer: Answer {
+            number: raw.number,
+            list: raw.list,
+            place: raw.place,
+        },
+        too_large: raw.too_large,
     }
 }

@@ -1,10 +1,11 @@
 //! Times the library and the Rust program on the same lists and prints
 //! nanoseconds and their ratio: for a gate of the netlist calls, for a cipher
 //! call or a choice, for an emission or the whole path of a record to its
-//! score, and for the file calls. It only reports: the exit status is always 0.
+//! score, for the file calls, and for a frame of port records. It only reports:
+//! the exit status is always 0.
 //!
-//! Names of parts (netlists, ciphers, emissions, files) as arguments: only
-//! these are timed.
+//! Names of parts (netlists, ciphers, emissions, files, frames) as arguments:
+//! only these are timed.
 
 use independent::cases::{self, Shape};
 use independent::cipher::{self, Search, INSTANCES};
@@ -12,6 +13,8 @@ use independent::cipher_cases::{self, Call};
 use independent::emission;
 use independent::emission_cases::{self, Emission};
 use independent::file_cases;
+use independent::frame_cases::{self, Appending};
+use independent::frames::{self, FRAME, RECORD};
 use independent::netlist::{self, Answer, Level, Metering, HEADER};
 use independent::random::{bits, Random};
 use independent::{choice, file, kreyvium, probe};
@@ -754,13 +757,123 @@ fn files(random: &mut Random) {
     }
 }
 
+// ---- frames ----
+
+/// How many frames a file has that is timed.
+const FRAMES: [usize; 4] = [100, 1_000, 10_000, 100_000];
+
+type Append = fn(&[u8], &[u8], &[u8], &[u8], &mut [u8]) -> Answer;
+
+fn append(program: Append, case: &Appending, frame: &mut [u8]) -> Answer {
+    let case = black_box(case);
+    program(
+        &case.key,
+        &case.record,
+        &case.iv,
+        &case.file,
+        black_box(frame),
+    )
+}
+
+/// Both programs' nanoseconds for a call that has to be done.
+fn time_both(programs: [&mut dyn FnMut() -> Answer; 2], failed: &mut usize) -> [f64; 2] {
+    let mut calls = programs.map(|call| Timed {
+        call,
+        expected: Answer::DONE,
+    });
+    let times = time_calls(&mut calls, failed);
+    [times[0], times[1]]
+}
+
+fn port_records(random: &mut Random) {
+    println!(
+        "nanoseconds for a frame of a file of port records, median of {CALL_SAMPLES} samples; \
+         gigabytes of the file a second"
+    );
+    println!();
+    println!("call         frames   library      rust   ratio   library GB/s      rust GB/s");
+    let mut failed = 0;
+    for count in FRAMES {
+        let case = frame_cases::sound_appending(random, count);
+        let Appending { key, file, .. } = &case;
+        let mut records = [(); 2].map(|()| vec![0; RECORD * count]);
+        let mut written = [[0; FRAME]; 2];
+        let [read_library, read_rust] = &mut records;
+        let [written_library, written_rust] = &mut written;
+        let calls: [(_, [&mut dyn FnMut() -> Answer; 2]); 3] = [
+            (
+                "check",
+                [&mut || probe::check_frames(black_box(file)), &mut || {
+                    frames::check(black_box(file))
+                }],
+            ),
+            (
+                "read",
+                [
+                    &mut || probe::read_frames(key, black_box(file), black_box(read_library)),
+                    &mut || frames::read(key, black_box(file), black_box(read_rust)),
+                ],
+            ),
+            (
+                "append",
+                [
+                    &mut || append(probe::append, &case, written_library),
+                    &mut || append(frames::append, &case, written_rust),
+                ],
+            ),
+        ];
+        for (name, programs) in calls {
+            let [library, rust] = time_both(programs, &mut failed);
+            let each = count as f64;
+            print!(
+                "{name:<9} {count:>9} {:>9.2} {:>9.2} {:>7.2}",
+                library / each,
+                rust / each,
+                library / rust
+            );
+            if name == "check" {
+                let [library, rust] = [library, rust].map(|time| file.len() as f64 / time);
+                print!(" {library:>14.2} {rust:>14.2}");
+            }
+            println!();
+        }
+        failed += usize::from(records[0] != records[1]);
+        failed += usize::from(written[0] != written[1]);
+    }
+
+    let case = frame_cases::sound_appending(random, 1);
+    let mut written = [[0; FRAME]; 2];
+    let [library, rust] = &mut written;
+    let [library, rust] = time_both(
+        [
+            &mut || append(probe::append_after, &case, library),
+            &mut || append(frames::append_after, &case, rust),
+        ],
+        &mut failed,
+    );
+    failed += usize::from(written[0] != written[1]);
+    println!();
+    println!("nanoseconds for an appending after the last frame");
+    println!();
+    println!("               library      rust   ratio");
+    println!(
+        "append after {library:>9.0} {rust:>9.0} {:>7.2}",
+        library / rust
+    );
+    if failed > 0 {
+        println!();
+        println!("{failed} calls answered otherwise: the figures above mean nothing");
+    }
+}
+
 type Part = fn(&mut Random);
 
-const PARTS: [(&str, Part); 4] = [
+const PARTS: [(&str, Part); 5] = [
     ("netlists", netlists),
     ("ciphers", ciphers),
     ("emissions", emissions),
     ("files", files),
+    ("frames", port_records),
 ];
 
 fn main() {

@@ -6,6 +6,7 @@
 
 use independent::choice;
 use independent::cipher::Instance;
+use independent::frames::{self, FRAME, MARK};
 use independent::netlist::{self, length, Answer, Level, AND, HEADER, MAX_GATES, NOT};
 use independent::path::{self, Read, Rooms};
 use independent::random::{bits, Random};
@@ -97,6 +98,21 @@ fn print_costs(name: &str, words: &[u32]) {
     println!("  {name:<32}{gates:>8}{depth:>8}{multiplications:>19}");
 }
 
+fn hexadecimal(bytes: &[u8]) -> String {
+    bytes.iter().map(|byte| format!("{byte:02X}")).collect()
+}
+
+/// Mark, IV and enciphered record of the frame that begins a file.
+fn print_frame(key: &[u8], record: &[u8], iv: &[u8]) {
+    let mut frame = [0; FRAME];
+    let answer = frames::append(key, record, iv, &[], &mut frame);
+    assert_eq!(answer, Answer::DONE);
+    let (mark, rest) = frame.split_at(MARK.len());
+    let (iv, enciphered) = rest.split_at(iv.len() / 8);
+    let [mark, iv, enciphered] = [mark, iv, enciphered].map(hexadecimal);
+    println!("  frame        {mark} {iv} {enciphered}");
+}
+
 fn print_path(number: u32, fields: &Fields, record: &[u8]) {
     let instance = Instance::numbered(number).expect("an instance");
     let mut random = Random::new(u64::from(number));
@@ -137,6 +153,9 @@ fn print_path(number: u32, fields: &Fields, record: &[u8]) {
     println!("\n{}", instance.name);
     println!("  record       {}", text(record));
     println!("  enciphered   {}", text(&enciphered));
+    if number == KREYVIUM {
+        print_frame(&key, record, &whitening);
+    }
     println!(
         "\n  {:<32}{:>8}{:>8}{:>19}",
         "netlist", "gates", "depth", "multiplications"

@@ -1,0 +1,363 @@
+//! Hands the collector's library and the Rust program the same lists, sound and
+//! damaged, and compares the packed answer and the lent lists. Both are held to
+//! the definitions.
+
+use independent::definitions::{self, FrameConditions};
+use independent::frame_cases::{
+    self, iv_at, iv_bits, not_above, put_iv, sound_appending, sound_reading, Appending, Reading,
+    FILE_FAULTS, LISTS,
+};
+use independent::frames::{FRAME, RECORD};
+use independent::lent::Lent;
+use independent::netlist::Answer;
+use independent::random::{fill, seeded, Random};
+use independent::tally::Tally;
+use independent::{collector, daemon, sallowknot};
+
+/// Random appendings, and random readings.
+const CASES: usize = 20_000;
+
+fn refusal(number: u32, list: u32, place: usize) -> Answer {
+    Answer::new(number, list, place)
+}
+
+fn least(held: &FrameConditions) -> Answer {
+    match held.first() {
+        Some(&(_, (number, list, place))) => refusal(number, list, place),
+        None => Answer::DONE,
+    }
+}
+
+/// Both programs gave what is due.
+fn judge(library: u64, rust: u64, held: &FrameConditions, case: &dyn Fn() -> String) -> Answer {
+    assert_eq!(library, rust, "library, rust; {}", case());
+    let due = least(held);
+    assert_eq!(library, daemon::packed(due), "{due:?} is due; {}", case());
+    due
+}
+
+/// Hands an appending to both programs, to the file or after its last frame. The
+/// answer, and what the frame then holds.
+fn append(appending: &Appending, last_alone: bool) -> (Answer, Vec<u8>) {
+    let case = || format!("{appending:?}, last frame alone: {last_alone}");
+    let (mut key, mut record) = (Lent::new(&appending.key), Lent::new(&appending.record));
+    let (mut iv, mut file) = (Lent::new(&appending.iv), Lent::new(&appending.file));
+    let mut frame = Lent::new(&appending.frame);
+    let (library, rust): (Append, Append) = match last_alone {
+        false => (sallowknot::frames_append, collector::append),
+        true => (sallowknot::frames_append_after, collector::append_after),
+    };
+    let library = library(
+        key.library(),
+        record.library(),
+        iv.library(),
+        file.library(),
+        frame.library(),
+    );
+    let rust = rust(
+        key.rust(),
+        record.rust(),
+        iv.rust(),
+        file.rust(),
+        frame.rust(),
+    );
+    let answer = judge(library, rust, &appending.conditions(last_alone), &case);
+    key.settle(0, "key bits", &case);
+    record.settle(0, "record bits", &case);
+    iv.settle(0, "IV bits", &case);
+    file.settle(0, "file", &case);
+    let written = if library == 0 { FRAME } else { 0 };
+    (answer, frame.settle(written, "frame", &case))
+}
+
+type Append = fn(&[u8], &[u8], &[u8], &[u8], &mut [u8]) -> u64;
+
+/// Has both programs read the file and check it. The answer to the reading, and
+/// what the records then hold.
+fn read(reading: &Reading) -> (Answer, Vec<u8>) {
+    let case = || format!("{reading:?}");
+    let (mut key, mut file) = (Lent::new(&reading.key), Lent::new(&reading.file));
+    let mut records = Lent::new(&reading.records);
+    let library = sallowknot::frames_read(key.library(), file.library(), records.library());
+    let rust = collector::read(key.rust(), file.rust(), records.rust());
+    let answer = judge(library, rust, &reading.conditions(), &case);
+    let library = sallowknot::frames_check(file.library());
+    let rust = collector::check(file.rust());
+    let held = definitions::check_conditions(1, &reading.file);
+    judge(library, rust, &held, &case);
+    key.settle(0, "key bits", &case);
+    file.settle(0, "file", &case);
+    let written = match answer {
+        Answer::DONE => RECORD * (reading.file.len() / FRAME),
+        _ => 0,
+    };
+    (answer, records.settle(written, "records", &case))
+}
+
+#[test]
+fn packed_answers() {
+    let zeros = [0; 128];
+    let mut frame = [9; FRAME];
+    let append = |iv: u128, file: &[u8], frame: &mut [u8]| {
+        sallowknot::frames_append(&zeros, &zeros[..64], &iv_bits(iv), file, frame)
+    };
+    assert_eq!(append(0, &[], &mut frame), 0);
+    let worked = *b"PT\0\0\0\0\0\0\0\0\0\0\0\0\0\0\0\0\x64\x3B\x8F\x2F\x3D\xF0\x98\x44";
+    assert_eq!(frame, worked);
+    assert_eq!(append(0, &worked, &mut frame), 0x001A_0410);
+    assert_eq!(append(1, &worked[..25], &mut frame), 0x0000_040F);
+    assert_eq!(append(1, &worked, &mut frame[..25]), 0x0019_0508);
+    let after = |iv: u128, last: &[u8], frame: &mut [u8]| {
+        sallowknot::frames_append_after(&zeros, &zeros[..64], &iv_bits(iv), last, frame)
+    };
+    assert_eq!(after(1, &worked, &mut frame), 0);
+    assert_eq!(after(0, &worked, &mut frame), 0x001A_0410);
+    assert_eq!(after(1, &worked[..25], &mut frame), 0x0019_0403);
+    let mut records = [9; 64];
+    assert_eq!(sallowknot::frames_read(&zeros, &worked, &mut records), 0);
+    assert_eq!(records, zeros[..64]);
+    let short = sallowknot::frames_read(&zeros, &worked, &mut records[..63]);
+    assert_eq!(short, 0x003F_0308);
+    let twice = [worked, worked].concat();
+    assert_eq!(sallowknot::frames_check(&twice), 0x001A_0110);
+    assert_eq!(sallowknot::frames_check(&twice[..51]), 0x001A_010F);
+    let twice_read = sallowknot::frames_read(&zeros, &twice, &mut records);
+    assert_eq!(twice_read, 0x001A_0210);
+    assert_eq!(sallowknot::frames_check(&[]), 0);
+    assert_eq!(sallowknot::frames_check(b"PT"), 0x0000_010F);
+}
+
+/// All lists empty, then one after the other not.
+#[test]
+fn empty_lists() {
+    let mut case = Appending {
+        key: vec![],
+        record: vec![],
+        iv: vec![],
+        file: vec![],
+        frame: vec![],
+    };
+    for (list, length) in LISTS.into_iter().zip([128, 64, 128]) {
+        for last_alone in [false, true] {
+            assert_eq!(append(&case, last_alone).0, refusal(3, list.number(), 0));
+        }
+        list.of(&mut case).resize(length, 1);
+    }
+    for last_alone in [false, true] {
+        assert_eq!(append(&case, last_alone).0, refusal(8, 5, 0));
+    }
+    let mut case = Reading {
+        key: vec![],
+        file: vec![],
+        records: vec![],
+    };
+    assert_eq!(read(&case).0, refusal(3, 1, 0));
+    case.key = vec![0; 128];
+    assert_eq!(read(&case).0, Answer::DONE);
+    case.file = definitions::frame(&case.key, &[1; 64], &[1; 128]);
+    assert_eq!(read(&case).0, refusal(8, 3, 0));
+}
+
+/// As a collector does: the file grows, and is read whole.
+#[test]
+fn growing_file() {
+    let mut random = seeded(641);
+    let key: Vec<u8> = sound_reading(&mut random, 0).key;
+    let (mut file, mut records) = (vec![], vec![]);
+    for iv in frame_cases::rising(&mut random, 200) {
+        let mut case = sound_appending(&mut random, 0);
+        case.key.clone_from(&key);
+        case.iv = iv_bits(iv);
+        let last = file[file.len().saturating_sub(FRAME)..].to_vec();
+        case.file.clone_from(&file);
+        let (answer, frame) = append(&case, false);
+        assert_eq!(answer, Answer::DONE);
+        case.file = last;
+        assert_eq!(append(&case, true), (Answer::DONE, frame.clone()));
+        file.extend(&frame[..FRAME]);
+        records.extend(case.record);
+        let case = Reading {
+            key: key.clone(),
+            file: file.clone(),
+            records: vec![9; records.len()],
+        };
+        let (answer, read) = read(&case);
+        assert_eq!(answer, Answer::DONE);
+        assert!(read == records);
+    }
+}
+
+#[test]
+fn small_files() {
+    let mut random = seeded(642);
+    let key = [1; 128];
+    let sound = frame_cases::file(&mut random, &[0xFE, 0xFF, 0x100]);
+    let of = |file: Vec<u8>| Reading {
+        key: key.to_vec(),
+        records: vec![9; RECORD * (file.len() / FRAME)],
+        file,
+    };
+    for length in 0..=sound.len() {
+        read(&of(sound[..length].to_vec()));
+    }
+    let mut tally = Tally::default();
+    for place in 0..sound.len() {
+        for byte in 0..=255 {
+            let mut file = sound.clone();
+            file[place] = byte;
+            tally.count(read(&of(file)).0);
+        }
+    }
+    tally.assert_seen(0, 0, 6_000);
+    tally.assert_seen(15, 2, 1_000);
+    tally.assert_seen(16, 2, 1_000);
+}
+
+/// Damages a file: several faults, or anything.
+fn damage(random: &mut Random, file: &mut Vec<u8>) {
+    for _ in 0..random.pick(&[1, 1, 2, 3]) {
+        if random.chance(30) {
+            frame_cases::wreck(random, file);
+        } else {
+            let fault = random.pick(&FILE_FAULTS);
+            frame_cases::inflict(random, file, fault);
+        }
+    }
+}
+
+#[test]
+fn random_appendings() {
+    let mut random = seeded(643);
+    let mut tallies = [Tally::default(), Tally::default()];
+    for _ in 0..CASES {
+        let last_alone = random.chance(50);
+        let frames = match last_alone {
+            true => random.below(2),
+            false => frame_cases::size(&mut random),
+        };
+        let mut case = sound_appending(&mut random, frames);
+        if frames > 0 && random.chance(20) {
+            let last = iv_at(&case.file, frames - 1);
+            case.iv = iv_bits(not_above(&mut random, last));
+        }
+        if random.chance(30) {
+            damage(&mut random, &mut case.file);
+        }
+        for list in LISTS {
+            let list = list.of(&mut case);
+            if random.chance(8) {
+                frame_cases::spoil_bit(&mut random, list);
+            }
+            if random.chance(5) {
+                frame_cases::resize(&mut random, list);
+            }
+        }
+        if random.chance(20) {
+            case.frame.truncate(random.below(FRAME));
+        }
+        let (answer, frame) = append(&case, last_alone);
+        if answer == Answer::DONE {
+            assert_eq!(frame[..FRAME], case.expected());
+        }
+        tallies[usize::from(last_alone)].count(answer);
+    }
+    for tally in &tallies {
+        tally.assert_seen(0, 0, CASES / 20);
+        for (number, list) in [(3, 1), (3, 2), (3, 3), (4, 1), (4, 2), (4, 3)] {
+            tally.assert_seen(number, list, CASES / 200);
+        }
+        for (number, list) in [(15, 4), (16, 4), (8, 5)] {
+            tally.assert_seen(number, list, CASES / 100);
+        }
+    }
+    tallies[1].assert_seen(3, 4, CASES / 200);
+}
+
+#[test]
+fn random_readings() {
+    let mut random = seeded(644);
+    let mut tally = Tally::default();
+    for _ in 0..CASES {
+        let frames = frame_cases::size(&mut random);
+        let mut case = sound_reading(&mut random, frames);
+        if random.chance(60) {
+            damage(&mut random, &mut case.file);
+        }
+        if random.chance(10) {
+            frame_cases::spoil_bit(&mut random, &mut case.key);
+        }
+        if random.chance(10) {
+            frame_cases::resize(&mut random, &mut case.key);
+        }
+        if random.chance(30) {
+            let short = random.pick(&[1, 64]);
+            let needed = RECORD * (case.file.len() / FRAME);
+            case.records.truncate(needed.saturating_sub(short));
+        }
+        tally.count(read(&case).0);
+    }
+    tally.assert_seen(0, 0, CASES / 10);
+    for (number, list) in [(3, 1), (4, 1), (8, 3), (15, 2), (16, 2)] {
+        tally.assert_seen(number, list, CASES / 100);
+    }
+}
+
+/// Places far beyond 16 bits.
+#[test]
+fn many_frames() {
+    const MANY: usize = 20_000;
+    let mut random = seeded(645);
+    let mut case = sound_reading(&mut random, MANY);
+    assert_eq!(read(&case).0, Answer::DONE);
+    let mut appending = sound_appending(&mut random, 0);
+    appending.file.clone_from(&case.file);
+    let last = iv_at(&case.file, MANY - 1);
+    appending.iv = iv_bits(last);
+    assert_eq!(append(&appending, false).0, refusal(16, 4, FRAME * MANY));
+    assert_eq!(append(&appending, true).0, refusal(3, 4, FRAME * MANY));
+    case.records.truncate(RECORD * MANY - 1);
+    assert_eq!(read(&case).0, refusal(8, 3, RECORD * MANY - 1));
+    put_iv(&mut case.file, MANY - 1, 0);
+    assert_eq!(read(&case).0, refusal(16, 2, FRAME * (MANY - 1)));
+    case.file[FRAME * (MANY - 2)] = b'N';
+    assert_eq!(read(&case).0, refusal(15, 2, FRAME * (MANY - 2)));
+}
+
+/// Many at once, on small stacks.
+#[test]
+fn from_many_threads() {
+    const STACK: usize = 256 * 1024;
+    let mut random = seeded(646);
+    let readings: Vec<Reading> = (0..8).map(|_| sound_reading(&mut random, 200)).collect();
+    let appending = sound_appending(&mut random, 200);
+    let frame = appending.expected();
+    std::thread::scope(|scope| {
+        for reading in &readings {
+            let (appending, frame) = (&appending, &frame);
+            let stale: Vec<u8> = fill(&mut random, 200 * RECORD);
+            let work = move || {
+                let mut expected = stale.clone();
+                collector::read(&reading.key, &reading.file, &mut expected);
+                for _ in 0..20 {
+                    let mut records = stale.clone();
+                    let answer = sallowknot::frames_read(&reading.key, &reading.file, &mut records);
+                    assert_eq!(answer, 0);
+                    assert!(records == expected);
+                    let mut written = [9; FRAME];
+                    let answer = sallowknot::frames_append(
+                        &appending.key,
+                        &appending.record,
+                        &appending.iv,
+                        &appending.file,
+                        &mut written,
+                    );
+                    assert_eq!(answer, 0);
+                    assert_eq!(written[..], frame[..]);
+                    assert_eq!(sallowknot::frames_check(&reading.file), 0);
+                }
+            };
+            let thread = std::thread::Builder::new().stack_size(STACK);
+            thread.spawn_scoped(scope, work).expect("a thread");
+        }
+    });
+}
