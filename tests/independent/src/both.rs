@@ -7,6 +7,7 @@ use crate::frames::{self, Fields, Put, Taken, FRAME, RECORD};
 use crate::lent::{show, Lent};
 use crate::netlist::{self, length, Answer, Level, Metering, HEADER};
 use crate::probe;
+use std::fmt::Debug;
 
 /// What an evaluation left behind; the other calls alike.
 pub struct Evaluated {
@@ -253,22 +254,43 @@ pub fn file_of(net: &[u32]) -> Vec<u8> {
 
 /// Hands an appending to a file to both programs; what the frame then holds.
 pub fn append(appending: &Appending) -> Written {
-    hand_appending(appending, "a file", probe::append, frames::append)
+    let (library, rust) = (probe::append, frames::append);
+    let (answer, bytes) = hand_appending(appending, "a file", library, rust, Answer::DONE);
+    Written { answer, bytes }
 }
 
 /// An appending after a last frame.
 pub fn append_after(appending: &Appending) -> Written {
-    hand_appending(
-        appending,
-        "a last frame",
-        probe::append_after,
-        frames::append_after,
-    )
+    let (library, rust) = (probe::append_after, frames::append_after);
+    let (answer, bytes) = hand_appending(appending, "a last frame", library, rust, Answer::DONE);
+    Written { answer, bytes }
 }
 
-type Append = fn(&[u8], &[u8], &[u8], &[u8], &mut [u8]) -> Answer;
+/// What the records then hold.
+pub fn read_frames(reading: &Reading) -> Written {
+    let (library, rust) = (probe::read_frames, frames::read);
+    let (answer, bytes) = hand_reading(reading, library, rust, Answer::DONE);
+    Written { answer, bytes }
+}
 
-fn hand_appending(appending: &Appending, to: &str, library: Append, rust: Append) -> Written {
+pub fn check_frames(file: &[u8]) -> Answer {
+    hand_frames(file, probe::check_frames, frames::check)
+}
+
+/// Calls on frames, for answers of any form.
+type Append<A> = fn(&[u8], &[u8], &[u8], &[u8], &mut [u8]) -> A;
+type ReadFrames<A> = fn(&[u8], &[u8], &mut [u8]) -> A;
+type CheckFrames<A> = fn(&[u8]) -> A;
+
+/// Hands an appending to a call of the library and one of the Rust program. The
+/// answer, and what the frame then holds: one is written where it is `done`.
+pub fn hand_appending<A: Debug + PartialEq>(
+    appending: &Appending,
+    to: &str,
+    library: Append<A>,
+    rust: Append<A>,
+    done: A,
+) -> (A, Vec<u8>) {
     let case = || {
         format!(
             "appending to {to}, {}: key {}, record {}, IV {}, room for {}",
@@ -297,22 +319,21 @@ fn hand_appending(appending: &Appending, to: &str, library: Append, rust: Append
         frame.rust(),
     );
     assert_eq!(library, rust, "library, rust; {}", case());
-    let written = match rust {
-        Answer::DONE => FRAME,
-        _ => 0,
-    };
     key.settle(0, "key bits", &case);
     record.settle(0, "record bits", &case);
     iv.settle(0, "IV bits", &case);
     file.settle(0, "file", &case);
-    Written {
-        answer: rust,
-        bytes: frame.settle(written, "frame", &case),
-    }
+    let written = if rust == done { FRAME } else { 0 };
+    (rust, frame.settle(written, "frame", &case))
 }
 
-/// What the records then hold.
-pub fn read_frames(reading: &Reading) -> Written {
+/// The same for a reading, and what the records then hold.
+pub fn hand_reading<A: Debug + PartialEq>(
+    reading: &Reading,
+    library: ReadFrames<A>,
+    rust: ReadFrames<A>,
+    done: A,
+) -> (A, Vec<u8>) {
     let case = || {
         format!(
             "reading of the frames {}: key {}, room for {}",
@@ -323,26 +344,26 @@ pub fn read_frames(reading: &Reading) -> Written {
     };
     let (mut key, mut file) = (Lent::new(&reading.key), Lent::new(&reading.file));
     let mut records = Lent::new(&reading.records);
-    let library = probe::read_frames(key.library(), file.library(), records.library());
-    let rust = frames::read(key.rust(), file.rust(), records.rust());
+    let library = library(key.library(), file.library(), records.library());
+    let rust = rust(key.rust(), file.rust(), records.rust());
     assert_eq!(library, rust, "library, rust; {}", case());
-    let written = match rust {
-        Answer::DONE => RECORD * (reading.file.len() / FRAME),
-        _ => 0,
-    };
     key.settle(0, "key bits", &case);
     file.settle(0, "file", &case);
-    Written {
-        answer: rust,
-        bytes: records.settle(written, "records", &case),
-    }
+    let frames = reading.file.len() / FRAME;
+    let written = if rust == done { RECORD * frames } else { 0 };
+    (rust, records.settle(written, "records", &case))
 }
 
-pub fn check_frames(file: &[u8]) -> Answer {
+/// And for a check.
+pub fn hand_frames<A: Debug + PartialEq>(
+    file: &[u8],
+    library: CheckFrames<A>,
+    rust: CheckFrames<A>,
+) -> A {
     let case = || format!("check of the frames {}", show(file));
     let mut lent = Lent::new(file);
-    let library = probe::check_frames(lent.library());
-    let rust = frames::check(lent.rust());
+    let library = library(lent.library());
+    let rust = rust(lent.rust());
     assert_eq!(library, rust, "library, rust; {}", case());
     lent.settle(0, "file", &case);
     rust

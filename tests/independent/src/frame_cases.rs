@@ -4,6 +4,7 @@
 use crate::definitions::{self, FrameConditions};
 use crate::frames::{FRAME, MARK, RECORD};
 use crate::kreyvium;
+use crate::netlist::Answer;
 use crate::random::{bits, fill, Random};
 
 /// An appending to a file, or after its last frame.
@@ -55,6 +56,14 @@ impl Reading {
     /// The records, where nothing holds against it.
     pub fn expected(&self) -> Vec<u8> {
         definitions::records(&self.key, &self.file)
+    }
+}
+
+/// The answer to a call against which that holds.
+pub fn least(held: &FrameConditions) -> Answer {
+    match held.first() {
+        Some(&(_, (number, list, place))) => Answer::new(number, list, place),
+        None => Answer::DONE,
     }
 }
 

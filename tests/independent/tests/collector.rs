@@ -2,17 +2,18 @@
 //! damaged, and compares the packed answer and the lent lists. Both are held to
 //! the definitions.
 
+use independent::both::{hand_appending, hand_frames, hand_reading};
 use independent::definitions::{self, FrameConditions};
 use independent::frame_cases::{
-    self, iv_at, iv_bits, not_above, put_iv, sound_appending, sound_reading, Appending, Reading,
-    FILE_FAULTS, LISTS,
+    self, iv_at, iv_bits, least, not_above, put_iv, sound_appending, sound_reading, Appending,
+    Reading, FILE_FAULTS, LISTS,
 };
 use independent::frames::{FRAME, RECORD};
-use independent::lent::Lent;
 use independent::netlist::Answer;
 use independent::random::{fill, seeded, Random};
 use independent::tally::Tally;
 use independent::{collector, daemon, sallowknot};
+use std::fmt::Debug;
 
 /// Random appendings, and random readings.
 const CASES: usize = 20_000;
@@ -21,77 +22,34 @@ fn refusal(number: u32, list: u32, place: usize) -> Answer {
     Answer::new(number, list, place)
 }
 
-fn least(held: &FrameConditions) -> Answer {
-    match held.first() {
-        Some(&(_, (number, list, place))) => refusal(number, list, place),
-        None => Answer::DONE,
-    }
-}
-
-/// Both programs gave what is due.
-fn judge(library: u64, rust: u64, held: &FrameConditions, case: &dyn Fn() -> String) -> Answer {
-    assert_eq!(library, rust, "library, rust; {}", case());
+/// The answer that is due, which is the packed one.
+fn due(packed: u64, held: &FrameConditions, case: &dyn Debug) -> Answer {
     let due = least(held);
-    assert_eq!(library, daemon::packed(due), "{due:?} is due; {}", case());
+    assert_eq!(packed, daemon::packed(due), "{due:?} is due; {case:?}");
     due
 }
 
 /// Hands an appending to both programs, to the file or after its last frame. The
 /// answer, and what the frame then holds.
-fn append(appending: &Appending, last_alone: bool) -> (Answer, Vec<u8>) {
-    let case = || format!("{appending:?}, last frame alone: {last_alone}");
-    let (mut key, mut record) = (Lent::new(&appending.key), Lent::new(&appending.record));
-    let (mut iv, mut file) = (Lent::new(&appending.iv), Lent::new(&appending.file));
-    let mut frame = Lent::new(&appending.frame);
-    let (library, rust): (Append, Append) = match last_alone {
-        false => (sallowknot::frames_append, collector::append),
-        true => (sallowknot::frames_append_after, collector::append_after),
+fn append(case: &Appending, last_alone: bool) -> (Answer, Vec<u8>) {
+    let (packed, frame) = if last_alone {
+        let (library, rust) = (sallowknot::frames_append_after, collector::append_after);
+        hand_appending(case, "a last frame", library, rust, 0)
+    } else {
+        let (library, rust) = (sallowknot::frames_append, collector::append);
+        hand_appending(case, "a file", library, rust, 0)
     };
-    let library = library(
-        key.library(),
-        record.library(),
-        iv.library(),
-        file.library(),
-        frame.library(),
-    );
-    let rust = rust(
-        key.rust(),
-        record.rust(),
-        iv.rust(),
-        file.rust(),
-        frame.rust(),
-    );
-    let answer = judge(library, rust, &appending.conditions(last_alone), &case);
-    key.settle(0, "key bits", &case);
-    record.settle(0, "record bits", &case);
-    iv.settle(0, "IV bits", &case);
-    file.settle(0, "file", &case);
-    let written = if library == 0 { FRAME } else { 0 };
-    (answer, frame.settle(written, "frame", &case))
+    (due(packed, &case.conditions(last_alone), case), frame)
 }
-
-type Append = fn(&[u8], &[u8], &[u8], &[u8], &mut [u8]) -> u64;
 
 /// Has both programs read the file and check it. The answer to the reading, and
 /// what the records then hold.
-fn read(reading: &Reading) -> (Answer, Vec<u8>) {
-    let case = || format!("{reading:?}");
-    let (mut key, mut file) = (Lent::new(&reading.key), Lent::new(&reading.file));
-    let mut records = Lent::new(&reading.records);
-    let library = sallowknot::frames_read(key.library(), file.library(), records.library());
-    let rust = collector::read(key.rust(), file.rust(), records.rust());
-    let answer = judge(library, rust, &reading.conditions(), &case);
-    let library = sallowknot::frames_check(file.library());
-    let rust = collector::check(file.rust());
-    let held = definitions::check_conditions(1, &reading.file);
-    judge(library, rust, &held, &case);
-    key.settle(0, "key bits", &case);
-    file.settle(0, "file", &case);
-    let written = match answer {
-        Answer::DONE => RECORD * (reading.file.len() / FRAME),
-        _ => 0,
-    };
-    (answer, records.settle(written, "records", &case))
+fn read(case: &Reading) -> (Answer, Vec<u8>) {
+    let checked = hand_frames(&case.file, sallowknot::frames_check, collector::check);
+    due(checked, &definitions::check_conditions(1, &case.file), case);
+    let (library, rust) = (sallowknot::frames_read, collector::read);
+    let (packed, records) = hand_reading(case, library, rust, 0);
+    (due(packed, &case.conditions(), case), records)
 }
 
 #[test]

@@ -6,8 +6,8 @@
 use independent::both::{append, append_after, bits, check_frames, fields, read_frames};
 use independent::definitions::{self, Condition, FrameConditions, FrameStage};
 use independent::frame_cases::{
-    self, iv_at, iv_bits, not_above, number, put_iv, sound_appending, sound_reading, Appending,
-    FileFault, List, Reading, FILE_FAULTS, LISTS,
+    self, iv_at, iv_bits, least, not_above, number, put_iv, sound_appending, sound_reading,
+    Appending, FileFault, List, Reading, FILE_FAULTS, LISTS,
 };
 use independent::frames::{self, FRAME, RECORD, WIDTHS};
 use independent::lent::show;
@@ -21,13 +21,6 @@ const CASES: usize = 20_000;
 
 fn refusal(number: u32, list: u32, place: usize) -> Answer {
     Answer::new(number, list, place)
-}
-
-fn least(held: &FrameConditions) -> Answer {
-    match held.first() {
-        Some(&(_, (number, list, place))) => refusal(number, list, place),
-        None => Answer::DONE,
-    }
 }
 
 /// Has both programs append to a file. The answer is the definitions'.

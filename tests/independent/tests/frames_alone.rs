@@ -1,8 +1,8 @@
 //! Holds the Rust program for the file of port records to a worked frame, to
 //! values found by hand and to the definitions. The library is not called.
 
-use independent::definitions::{self, FrameConditions};
-use independent::frame_cases::{self, iv_bits, Appending, FileFault, FILE_FAULTS, LISTS};
+use independent::definitions;
+use independent::frame_cases::{self, iv_bits, least, Appending, FileFault, FILE_FAULTS, LISTS};
 use independent::frames::{self, append, append_after, check, read, Put, FRAME, RECORD};
 use independent::kreyvium::{self, first_bits, first_word, pack, pack_half, unpack, Rounds};
 use independent::netlist::Answer;
@@ -14,14 +14,6 @@ const CASES: usize = 10_000;
 
 fn refusal(number: u32, list: u32, place: usize) -> Answer {
     Answer::new(number, list, place)
-}
-
-/// The answer to a call against which that holds.
-fn least(held: &FrameConditions) -> Answer {
-    match held.first() {
-        Some(&(_, (number, list, place))) => refusal(number, list, place),
-        None => Answer::DONE,
-    }
 }
 
 // ---- words ----
