@@ -1,46 +1,22 @@
--- Eight bits of a word as eight bytes, how they are stored, and back.
+-- How eight bits that are spread to bytes are stored, and eight such bytes gathered.
 use Prim.Native.Nat.{ℕ, _+_, _*_, _-_, _/_, _%_, _^_, _<_, _≤_}
-use mathlib.Core.Path.{_≡_, refl, sym, ap, _∙_}
-use mathlib.Core.Bool.{Bool, false, not}
+use mathlib.Core.Path.{_≡_, sym, ap, _∙_}
 use mathlib.Core.List.{List}
 use native.Mathlib.Nat.{pow-le-pow-right}
 use native.Mathlib.Omega.{arith}
 use native.Mathlib.Numerals.{towards-suc}
-use lib.Dec.{eqb}
-use lib.Bits.{bitAnd}
 use lib.ListN.{length, getD, set}
 use lib.Pow.{field, mod-mod-pow, shr-shr}
 use lib.Seq.{sets}
-use borrow.Author.Tests.{eqb-true, not-false}
-use Rattle.answer.specs.First.{firstFrom, some}
 use Rattle.answer.specs.Fronts.{over}
 use Rattle.answer.proofs.Over.{over-sets}
-use Rattle.answer.proofs.Search.{none-below}
 use Rattle.filter.specs.Filter.{tab}
 use Rattle.filter.proofs.Tab.{tab-length, tab-same, tab-add}
 use Rattle.kreyvium.specs.Words.{bit}
-use Rattle.frames.specs.Inner.{apart, lowFour}
+use Rattle.cipher.specs.Apart.{apart}
+use Rattle.frames.specs.Inner.{lowFour}
 use Rattle.frames.specs.Bytes.{digits}
 use Rattle.frames.proofs.Digits.{digits-below, digits-split}
-
--- ---- eight bits spread
-
--- what the code makes of them
-abbrev pub spreadOf : ℕ → ℕ
-spreadOf b = bitAnd (b * 18049651735527937 / 128) 282578800148737 + b % 2 * 72057594037927936
-
--- there are 256 numbers with eight bytes each, and each is looked at
-unfoldable wrong : ℕ → ℕ → Bool
-wrong b k = not (eqb (spreadOf b / 2 ^ (8 * k) % 256) (bit b (7 - k)))
-
-none-wrong : some (λ b. some (wrong b) 8) 256 ≡ false
-unfolding wrong bit firstFrom
-none-wrong = refl
-
-pub spread-right : (b k : ℕ) → b < 256 → k < 8 → spreadOf b / 2 ^ (8 * k) % 256 ≡ bit b (7 - k)
-unfolding wrong
-spread-right b k h g =
-    eqb-true (spreadOf b / 2 ^ (8 * k) % 256) (bit b (7 - k)) (not-false _ (none-below (wrong b) 8 k (none-below (λ b. some (wrong b) 8) 256 b none-wrong h) g))
 
 -- ---- bytes stored
 

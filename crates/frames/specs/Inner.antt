@@ -1,18 +1,13 @@
 -- What only promises of private functions cite.
-use Prim.Native.Nat.{ℕ, _+_, _*_, _/_, _%_, _^_}
+use Prim.Native.Nat.{ℕ, _*_, _/_, _%_, _^_}
 use mathlib.Core.List.{List, [], _∷_}
 use lib.Bits.{bitAnd, bitXor}
-use lib.ListN.{getD}
 use Rattle.filter.specs.Filter.{tab}
 use Rattle.frames.specs.Frames.{byteP, byteT}
 
 -- a word of 64 bits in which each group of k bits under the mask is exchanged with the k bits above it
 abbrev pub exchangedBy : ℕ → ℕ → ℕ → ℕ
 exchangedBy k mask x = bitXor (bitAnd (x / 2 ^ k) mask) (bitAnd x mask * 2 ^ k % 2 ^ 64)
-
--- four bits from a place on, eight places apart in a number, the first lowest
-unfoldable pub apart : List ℕ → ℕ → ℕ
-apart s at = getD s at 0 + getD s (at + 1) 0 * 256 + getD s (at + 2) 0 * 65536 + getD s (at + 3) 0 * 16777216
 
 -- the four low bytes of a number, the lowest first
 unfoldable pub lowFour : ℕ → List ℕ

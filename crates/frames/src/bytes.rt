@@ -6,8 +6,9 @@ ghost use lib.ListN.{length, getD, take, drop};
 ghost use lib.Seq.{sets};
 ghost use Rattle.answer.specs.Fronts.{over};
 ghost use Rattle.kreyvium.specs.Words.{bit, bits, tops};
+ghost use Rattle.cipher.specs.Apart.{apart};
 ghost use Rattle.frames.specs.Bytes.{digits, packed, unpacked};
-ghost use Rattle.frames.specs.Inner.{apart, exchangedBy, lowFour};
+ghost use Rattle.frames.specs.Inner.{exchangedBy, lowFour};
 
 pub(crate) fn wide(x: u8) -> u64
     ensures { λ r. ⌜ (r ≡ x) × (r < 256) ⌝ }

@@ -4,7 +4,7 @@ use mathlib.Core.List.{List}
 use native.Mathlib.Omega.{arith}
 use lib.ListN.{getD}
 use denote.Ref.{now}
-use Rattle.frames.specs.Inner.{apart}
+use Rattle.cipher.specs.Apart.{apart}
 use borrow.Author.Needs.{needs}
 use Rattle.frames.proofs.bytes.four.Statement.{statement}
 use Rattle.frames.proofs.bytes.four.Tie as tie

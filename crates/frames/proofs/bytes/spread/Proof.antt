@@ -1,7 +1,7 @@
 use Prim.Native.Nat.{_*_, _/_}
 use native.Mathlib.Omega.{arith}
 use lib.Bits.{and-le-r}
-use Rattle.frames.proofs.Spreading.{spread-right}
+use Rattle.cipher.proofs.Spread.{spread-right}
 use borrow.Author.Needs.{needs}
 use Rattle.frames.proofs.bytes.spread.Statement.{statement}
 use Rattle.frames.proofs.bytes.spread.Tie as tie
