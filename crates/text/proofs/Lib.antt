@@ -4,5 +4,5 @@ pub mod Reading
 pub mod Netlists
 pub mod Thresholds
 pub mod Fits
-pub mod Printing
+pub mod Cases
 pub mod Lines
