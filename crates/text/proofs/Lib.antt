@@ -6,3 +6,4 @@ pub mod Thresholds
 pub mod Fits
 pub mod Cases
 pub mod Lines
+pub mod Samples
