@@ -1,7 +1,7 @@
 // Instances 1 to 5: a filter over the variables of each row.
 ghost use mathlib.Core.Path.{_≡_};
 ghost use mathlib.Core.List.{_++_};
-ghost use Prim.Native.Nat.{ℕ, _+_, _*_, _%_, _<_, _≤_};
+ghost use Prim.Native.Nat.{ℕ, _+_, _%_, _<_, _≤_};
 ghost use lib.ListN.{length, getD, take};
 ghost use Rattle.filter.specs.Filter.{var, tab};
 ghost use Rattle.instance.specs.Table.{rowBits};

@@ -5,7 +5,7 @@ use mathlib.Core.List.{List, [], _∷_, _++_, append-assoc, append-nil}
 use native.Mathlib.Omega.{arith}
 use native.Mathlib.Nat.{add-assoc, mul-assoc, mul-comm, one-mul, mul-suc, suc-mul, mod-add-mod}
 use native.Mathlib.Numerals.{add-one}
-use lib.ListN.{length, getD, take, drop, replicate, length-drop, replicate-append-replicate}
+use lib.ListN.{getD, take, drop, replicate, length-drop, replicate-append-replicate}
 use lib.Seq.{take-suc, take-all, drop-drop, drop-at, getD-drop}
 use Rattle.instance.specs.Table.{sizesOf, rowBits}
 use Rattle.filter.specs.Filter.{tab, prod, sumOf, threshold}
