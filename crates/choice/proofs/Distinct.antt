@@ -1,22 +1,17 @@
--- An accepted choice gives a row of distinct indices below N, which the judges of rows accept. Swaps keep two facts
--- of a list: every element is below N, and no two places hold the same.
-use Prim.Native.Nat.{ℕ, suc, _+_, _-_, _%_, _<_, _≤_}
+-- An accepted choice gives a row of n distinct indices below N. Swaps keep two facts of a list: every element is below N,
+-- and no two places hold the same.
+use Prim.Native.Nat.{ℕ, suc, _+_, _<_, _≤_}
 use mathlib.Core.Path.{_≡_, refl, sym, ap, _∙_}
 use mathlib.Core.Bool.{Bool, true, false}
 use mathlib.Core.List.{List, [], _∷_}
 use native.Mathlib.Omega.{arith}
-use native.Mathlib.Nat.{mod-le}
 use lib.ListN.{length, getD, set, take, length-set}
 use lib.Dec.{eqb}
 use lib.Seq.{getD-set-same, getD-set-other, getD-take, length-take-le}
-use borrow.Author.Tests.{le-ltb, lt-leb, ne-eqb, eqb-true, eqb-false}
+use borrow.Author.Tests.{eqb-true, eqb-false}
 use Rattle.answer.specs.declared.Answer.the-variants.{Done}
 use Rattle.answer.specs.Choose.{choose}
-use Rattle.answer.specs.First.{first}
-use Rattle.answer.proofs.Rows.{both, refuse-not}
-use Rattle.answer.proofs.Search.{first-none, some-none}
 use Rattle.instance.specs.Table.{keyBits, rowBits}
-use Rattle.instance.specs.Judging.{firstAnswer, pastKey, sameFrom, repeatsInRow, rowsAnswer}
 use Rattle.choice.specs.Choice.{upTo, swap, swaps, chosen, rowOf, chooseAnswer}
 use Rattle.choice.specs.Draws.{DrawsFit}
 use Rattle.choice.proofs.Swaps.{upTo-length, upTo-at, swap-length, swaps-length}
@@ -113,33 +108,14 @@ chosen-distinct N draws f =
     (omega (arith, f .count, swaps-length draws 0 (upTo N)))
     (swaps-distinct N draws 0 (upTo N) (λ k l. omega (arith, f .low k l)) (in-order N))
 
--- a list that fails a test at every place passes for the test's number
-all-pass : (n l : ℕ) (p : ℕ → Bool) (s : List ℕ) → ((k : ℕ) → k < length s → p k ≡ false) → firstAnswer n l p s ≡ Done
-unfolding firstAnswer
-all-pass n l p s h =
-    let all : length s ≤ first p (length s) = omega (arith, first-none p (length s) h) in
-    refuse-not n l _ (le-ltb _ _ all)
+-- the row of an accepted choice
+module _ (inst : ℕ) (draws : List ℕ) (room : ℕ) (e : chooseAnswer inst draws room ≡ Done) where
+  pub row-distinct : Distinct (keyBits inst) (rowOf inst draws)
+  row-distinct = rw (← counted inst draws room e) (chosen-distinct (keyBits inst) draws (fit inst draws room e))
 
-pub distinct-rows : (l N n : ℕ) (s : List ℕ) → Distinct N s → rowsAnswer l N n s ≡ Done
-unfolding rowsAnswer pastKey repeatsInRow sameFrom
-distinct-rows l N n s d =
-    both (all-pass 5 l (pastKey N s) s (λ k h. lt-leb N (getD s k 0) (d .below k h)))
-    (all-pass 6 l (repeatsInRow n s) s
-    (λ k h. some-none (sameFrom (k - k % n) s k) (k % n)
-    (λ j m. ne-eqb (getD s (k - k % n + j) 0) (getD s k 0)
-    (λ e. omega (arith, mod-le k n, d .apart (k - k % n + j) k (omega (arith, mod-le k n)) h e)))))
-
--- The row judges of a cipher call, as whose list l it is handed on, accept the row of an accepted choice.
-pub row-accepted : (l inst : ℕ) (draws : List ℕ) (room : ℕ) → chooseAnswer inst draws room ≡ Done
-    → rowsAnswer l (keyBits inst) (rowBits inst) (rowOf inst draws) ≡ Done
-row-accepted l inst draws room e =
-    distinct-rows l (keyBits inst) (rowBits inst) (rowOf inst draws)
-    (rw (← counted inst draws room e) (chosen-distinct (keyBits inst) draws (fit inst draws room e)))
-
--- and it has n indices
-pub row-length : (inst : ℕ) (draws : List ℕ) (room : ℕ) → chooseAnswer inst draws room ≡ Done → length (rowOf inst draws) ≡ rowBits inst
-unfolding chosen
-row-length inst draws room e =
-    let f = fit inst draws room e in
-    length-take-le (rowBits inst) (swaps 0 draws (upTo (keyBits inst)))
-    (omega (arith, counted inst draws room e, f .count, swaps-length draws 0 (upTo (keyBits inst)), upTo-length (keyBits inst)))
+  pub row-length : length (rowOf inst draws) ≡ rowBits inst
+  unfolding chosen
+  row-length =
+      let f = fit inst draws room e in
+      length-take-le (rowBits inst) (swaps 0 draws (upTo (keyBits inst)))
+      (omega (arith, counted inst draws room e, f .count, swaps-length draws 0 (upTo (keyBits inst)), upTo-length (keyBits inst)))

@@ -1,3 +1,4 @@
 pub mod Swaps
 pub mod Accepted
 pub mod Distinct
+pub mod Rows

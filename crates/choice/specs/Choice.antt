@@ -33,6 +33,11 @@ chosen N n draws = take n (swaps 0 draws (upTo N))
 abbrev pub rowOf : ℕ → List ℕ → List ℕ
 rowOf inst draws = chosen (keyBits inst) (rowBits inst) draws
 
+-- rows end to end, row t chosen from draws t
+unfoldable pub rowsOf : ℕ → (ℕ → List ℕ) → ℕ → List ℕ
+rowsOf inst draws zero = []
+rowsOf inst draws (suc m) = rowsOf inst draws m ++ rowOf inst (draws m)
+
 -- draw(i) is not below N - i
 unfoldable pub pastDraw : ℕ → List ℕ → ℕ → Bool
 pastDraw N draws i = leb (N - i) (getD draws i 0)

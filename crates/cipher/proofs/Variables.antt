@@ -47,12 +47,14 @@ pub eight-more : (f : ℕ → ℕ) (some x y : List ℕ) (i : ℕ) → ((t : ℕ
 eight-more f some x y i g v w =
     w ∙ ap₂ (λ (a b : List ℕ). a ++ b) v (tab-same (λ t. getD some t 0 % 2) (λ t. f (i + t)) 8 g) ∙ sym (tab-add f i 8)
 
--- row i of m rows of n is there
+-- where the next row begins; row i of m rows of n is there
+pub row-next : (i n : ℕ) → (i + 1) * n ≡ i * n + n
+row-next i n = add-mul i 1 n ∙ ap (λ (x : ℕ). i * n + x) (one-mul n)
+
 pub row-in : (i m n : ℕ) → i < m → i * n + n ≤ m * n
 row-in i m n h =
-    let e : (i + 1) * n ≡ i * n + n = add-mul i 1 n ∙ ap (λ (x : ℕ). i * n + x) (one-mul n) in
     let l : i + 1 ≤ m = omega arith in
-    rw (← e) (mul-le-mul-right n l)
+    rw (← row-next i n) (mul-le-mul-right n l)
 
 -- a keystream bit over the parts of the lists from row i on
 pub bit-is : (inst : ℕ) (key idx wh : List ℕ) (i : ℕ) {r w : List ℕ} {n at : ℕ} → n ≡ rowBits inst → at ≡ i * n → r ≡ drop at idx → w ≡ drop at wh

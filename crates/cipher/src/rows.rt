@@ -1,7 +1,7 @@
 // Instances 1 to 5: a filter over the variables of each row.
 ghost use mathlib.Core.Path.{_≡_};
 ghost use mathlib.Core.List.{_++_};
-ghost use Prim.Native.Nat.{ℕ, _+_, _*_, _%_, _<_, _≤_};
+ghost use Prim.Native.Nat.{ℕ, _+_, _%_, _<_, _≤_};
 ghost use lib.ListN.{length, getD, take};
 ghost use Rattle.filter.specs.Filter.{var, tab};
 ghost use Rattle.instance.specs.Table.{rowBits};
@@ -94,9 +94,9 @@ fn put_bits(
     requires { ⌜ Rows instance (now key) (now indices) (now whitening) (length (now x)) (length (now out)) × (row ≡ rowBits instance) ⌝ }
     ensures { λ r. ⌜ now (out .exit) ≡ tab (streamBit instance (now (key .entry)) (now (indices .entry)) (now (whitening .entry))) (length (now (out .entry))) ⌝ }
 {
+    let mut at: usize = 0;
     let mut i: usize = 0;
     while i < out.len() {
-        let at = i * row;
         let b = row_bit(
             instance,
             key,
@@ -105,6 +105,7 @@ fn put_bits(
             &mut x[..row],
         );
         out[i] = b;
+        at += row;
         i += 1;
     }
 }

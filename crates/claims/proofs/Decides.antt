@@ -34,8 +34,9 @@ use Rattle.cells.specs.Cells.{oneHotNet, thresholdNet}
 use Rattle.file.specs.declared.form.Form.{Form}
 use Rattle.file.specs.File.{checkAnswer, ReadAs, WrittenAs}
 use Rattle.text.specs.declared.Asked.{Asked}
+use Rattle.text.specs.declared.Printing.{Printing}
 use Rattle.text.specs.Asked.{askedOf}
-use Rattle.text.specs.Text.{Printed}
+use Rattle.text.specs.Text.{printed, Printed}
 use Rattle.emit.specs.Emit.{oneHotAnswer, thresholdAnswer, decipherAnswer, decipherNet, Emitted}
 
 -- two lists that were left by equal answers
@@ -128,8 +129,14 @@ pub check-file-decides : (form : Form) (source : List ℕ) {r s : Answer} → r 
 check-file-decides form source p q = equation-decides (checkAnswer form source) p q
 
 -- the printing program's text
-pub print-decides : (input out : List ℕ) {r s : ℕ} {v w : List ℕ} → Printed input out r v → Printed input out s w → (r ≡ s) × (v ≡ w)
-print-decides input out x y = (x .size ∙ sym (y .size), x .written ∙ sym (y .written))
+pub print-decides : (input out : List ℕ) {r s : Printing} {v w : List ℕ} → Printed input out r v → Printed input out s w → (r ≡ s) × (v ≡ w)
+print-decides input out {r} {s} x y =
+    let p = x .answered ∙ sym (y .answered) in
+    let q = x .sized ∙ ap (λ (t : Answer). ifDone t (length (printed input))) p ∙ sym (y .sized) in
+    (printing-eq r s p q, same-left _ _ p (x .written) (y .written))
+  where
+    printing-eq : (r s : Printing) → r .answer ≡ s .answer → r .size ≡ s .size → r ≡ s
+    printing-eq r s p q i = record { answer = p i; size = q i }
 
 pub parse-decides : (input : List ℕ) {r s : Asked} → r ≡ askedOf input → s ≡ askedOf input → r ≡ s
 parse-decides input p q = equation-decides (askedOf input) p q

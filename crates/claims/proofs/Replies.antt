@@ -8,8 +8,9 @@ use Rattle.meter.specs.declared.Level.{Level}
 use Rattle.file.specs.declared.form.Form.the-variants.{Full}
 use Rattle.probe.specs.declared.Reply.{Reply}
 use Rattle.probe.specs.declared.Metering.{Metering}
-use Rattle.probe.specs.Replies.{replyOf, meteringOf, EvaluateReply, MeterReply, GlueReply, ChooseReply, KeystreamReply, CipherReply, EmitReply, ScoreReply, ReadReply, WriteReply, AppendReply, AppendAfterReply, FramesReply}
-use Rattle.claims.proofs.Decides.{evaluate-decides, meter-decides, glue-decides, choose-decides, keystream-decides, cipher-decides, emitted-decides, score-decides, read-decides, write-decides, append-decides, append-after-decides, frames-read-decides}
+use Rattle.probe.specs.declared.Printout.{Printout}
+use Rattle.probe.specs.Replies.{replyOf, meteringOf, EvaluateReply, MeterReply, GlueReply, ChooseReply, KeystreamReply, CipherReply, EmitReply, ScoreReply, ReadReply, WriteReply, printoutOf, PrintReply, AppendReply, AppendAfterReply, FramesReply}
+use Rattle.claims.proofs.Decides.{evaluate-decides, meter-decides, glue-decides, choose-decides, keystream-decides, cipher-decides, emitted-decides, score-decides, read-decides, write-decides, print-decides, append-decides, append-after-decides, frames-read-decides}
 
 told-same : (a b : Answer) {r s : Reply} → r ≡ replyOf a → s ≡ replyOf b → a ≡ b → r ≡ s
 told-same a b p q e = p ∙ ap replyOf e ∙ sym q
@@ -73,6 +74,12 @@ pub meter-reply-decides : (net ds : List ℕ) (ls : List Level) {r s : Metering}
 meter-reply-decides net ds ls x y =
     let d = meter-decides net ds ls (x .outcome) (y .outcome) in
     (x .told ∙ ap meteringOf (d .0) ∙ sym (y .told), d .1, d .2)
+
+pub print-reply-decides : (input out : List ℕ) {r s : Printout} {v w : List ℕ}
+    → PrintReply input out r v → PrintReply input out s w → (r ≡ s) × (v ≡ w)
+print-reply-decides input out x y =
+    let d = print-decides input out (x .outcome) (y .outcome) in
+    (x .told ∙ ap printoutOf (d .0) ∙ sym (y .told), d .1)
 
 pub append-reply-decides : (key rec iv f out : List ℕ) {r s : Reply} {v w : List ℕ}
     → AppendReply key rec iv f out r v → AppendReply key rec iv f out s w → (r ≡ s) × (v ≡ w)

@@ -1,16 +1,18 @@
 -- The degrees of instances 1 to 5 give the filters that the papers publish.
-use Prim.Native.Nat.{ℕ, zero, suc, _+_, _*_, _/_, _%_, _<_, _≤_}
+use Prim.Native.Nat.{ℕ, zero, suc, _+_, _*_, _-_, _/_, _%_, _<_, _≤_}
 use mathlib.Core.Path.{_≡_, refl, ap, ap₂, sym, _∙_}
 use mathlib.Core.List.{List, [], _∷_, _++_, append-assoc, append-nil}
 use native.Mathlib.Omega.{arith}
 use native.Mathlib.Nat.{add-assoc, mul-assoc, mul-comm, one-mul, mul-suc, suc-mul, mod-add-mod}
 use native.Mathlib.Numerals.{add-one}
-use lib.ListN.{length, getD, take, drop, replicate, length-drop, replicate-append-replicate}
-use lib.Seq.{take-suc, drop-drop, getD-drop}
-use Rattle.filter.specs.Filter.{prod, sumOf, threshold}
-use Rattle.filter.specs.Papers.{sum, product, triangleSize, triangular, flip, directSum}
+use lib.ListN.{getD, take, drop, replicate, length-drop, replicate-append-replicate}
+use lib.Seq.{take-suc, take-all, drop-drop, drop-at, getD-drop}
+use Rattle.instance.specs.Table.{sizesOf, rowBits}
+use Rattle.filter.specs.Filter.{tab, prod, sumOf, threshold}
+use Rattle.filter.specs.Papers.{sum, product, triangleSize, triangleStart, triangular, flip, directSum, vector1216, vector1280, published}
 use Rattle.filter.specs.Instances.{upTo, copies, flipDegrees, degreesOf, tailOf, filterOf}
 use Rattle.filter.proofs.Sums.{sumOf-bit}
+use Rattle.filter.proofs.Tab.{tab-length, tab-at, tab-add}
 
 pointwise : {f g : ℕ → ℕ} → ((n : ℕ) → f n ≡ g n) → f ≡ g
 pointwise h i n = h n i
@@ -31,19 +33,20 @@ unfolding prod
 prod-snoc [] y = mul-comm y 1
 prod-snoc (x ∷ l) y = ap (λ (p : ℕ). x * p) (prod-snoc l y) ∙ sym (mul-assoc x (prod l) y)
 
-prod-at : (xs : List ℕ) (at d : ℕ) → at + d ≤ length xs → prod (take d (drop at xs)) ≡ product d (λ j. getD xs (at + j) 0)
-unfolding prod product
-prod-at xs at zero h = refl
-prod-at xs at (suc d) h =
-    ap prod (take-suc (drop at xs) d 0 (omega (arith, length-drop at xs)))
-    ∙ prod-snoc (take d (drop at xs)) (getD (drop at xs) d 0)
-    ∙ ap₂ (λ (p y : ℕ). p * y) (prod-at xs at d (omega arith)) (getD-drop at xs d 0)
+module _ (x : ℕ → ℕ) (n : ℕ) where
+  prod-at : (at d : ℕ) → at + d ≤ n → prod (take d (drop at (tab x n))) ≡ product d (λ j. x (at + j))
+  unfolding prod product
+  prod-at at zero h = refl
+  prod-at at (suc d) h =
+      ap prod (take-suc (drop at (tab x n)) d 0 (omega (arith, length-drop at (tab x n), tab-length x n)))
+      ∙ prod-snoc (take d (drop at (tab x n))) (getD (drop at (tab x n)) d 0)
+      ∙ ap₂ (λ (p y : ℕ). p * y) (prod-at at d (omega arith)) (getD-drop at (tab x n) d 0 ∙ tab-at x n (at + d) (omega arith))
 
-sumOf-at : (ds xs : List ℕ) (at : ℕ) → at + total ds ≤ length xs → sumOf ds (drop at xs) ≡ sumAt ds at (λ i. getD xs i 0)
-unfolding sumOf sumAt total
-sumOf-at [] xs at h = refl
-sumOf-at (d ∷ ds) xs at h =
-    ap₂ (λ (p s : ℕ). (p + s) % 2) (prod-at xs at d (omega arith)) (ap (sumOf ds) (drop-drop d at xs) ∙ sumOf-at ds xs (at + d) (omega arith))
+  sumOf-at : (ds : List ℕ) (at : ℕ) → at + total ds ≤ n → sumOf ds (drop at (tab x n)) ≡ sumAt ds at x
+  unfolding sumOf sumAt total
+  sumOf-at [] at h = refl
+  sumOf-at (d ∷ ds) at h =
+      ap₂ (λ (p s : ℕ). (p + s) % 2) (prod-at at d (omega arith)) (ap (sumOf ds) (drop-drop d at (tab x n)) ∙ sumOf-at ds (at + d) (omega arith))
 
 -- Degrees end to end.
 total-append : (ds es : List ℕ) → total (ds ++ es) ≡ total ds + total es
@@ -92,22 +95,21 @@ sumAt-replicate x (suc m) d at =
     ∙ sumAt-snoc x (replicate m d) d at
     ∙ ap₂ (λ (s t : ℕ). (s + product d (λ j. x (at + t + j))) % 2) (sumAt-replicate x m d at) (total-replicate m d)
 
--- The triangle of degree k: its degrees use (k + 1) · k / 2 variables.
-total-upTo : (k : ℕ) → (k + 1) * k ≡ 2 * total (upTo k)
+-- The triangle of degree k: its degrees use k · (k + 1) / 2 variables, and so many stand before the monomial of degree k + 1.
+total-upTo : (k : ℕ) → k * suc k ≡ 2 * total (upTo k)
 unfolding total
 total-upTo zero = refl
 total-upTo (suc k) =
-    let e : suc k + 1 ≡ suc (k + 1) = omega arith in
-    ap (λ (n : ℕ). n * suc k) e
-    ∙ suc-mul (k + 1) (suc k)
-    ∙ omega (arith, total-upTo k, mul-suc (k + 1) k, total-append (upTo k) (suc k ∷ []))
+    mul-suc (suc k) (suc k)
+    ∙ omega (arith, total-upTo k, suc-mul k (suc k), total-append (upTo k) (suc k ∷ []))
 
 pub triangle-total : (k : ℕ) → total (upTo k) ≡ triangleSize k
-triangle-total k = omega (arith, total-upTo k)
+triangle-total k = omega (arith, total-upTo k, ap (λ (n : ℕ). k * n) (add-one k))
 
-pub triangle-more : (k : ℕ) → triangleSize (suc k) ≡ triangleSize k + suc k
-unfolding total
-triangle-more k = sym (triangle-total (suc k)) ∙ total-append (upTo k) (suc k ∷ []) ∙ omega (arith, triangle-total k)
+triangle-start : (k : ℕ) → total (upTo k) ≡ triangleStart (suc k)
+triangle-start k =
+    let e : suc k - 1 ≡ k = omega arith in
+    omega (arith, total-upTo k, ap (λ (n : ℕ). suc k * n) e, mul-comm (suc k) k)
 
 sumAt-upTo : (x : ℕ → ℕ) (k at : ℕ) → sumAt (upTo k) at x ≡ triangular k (λ i. x (at + i))
 unfolding sumAt sum
@@ -115,7 +117,7 @@ sumAt-upTo x zero at = refl
 sumAt-upTo x (suc k) at =
     sumAt-snoc x (upTo k) (suc k) at
     ∙ ap₂ (λ (s t : ℕ). (s + t) % 2) (sumAt-upTo x k at)
-    (ap (product (suc k)) (pointwise (λ j. ap (λ (t : ℕ). x (at + t + j)) (triangle-total k) ∙ ap x (add-assoc at (triangleSize k) j))))
+    (ap (product (suc k)) (pointwise (λ j. ap (λ (t : ℕ). x (at + t + j)) (triangle-start k) ∙ ap x (add-assoc at (triangleStart (suc k)) j))))
 
 -- nb triangles
 copies-snoc : (n : ℕ) (s : List ℕ) → copies (suc n) s ≡ copies n s ++ s
@@ -180,11 +182,10 @@ total-flip n1 pairs nb k =
     (omega (arith, total-append (replicate n1 1) (replicate pairs 2), total-replicate n1 1, total-replicate pairs 2))
     (total-copies nb (upTo k) ∙ ap (λ (t : ℕ). nb * t) (triangle-total k))
 
-pub flip-is : (n1 pairs nb k : ℕ) (xs : List ℕ) → n1 + 2 * pairs + nb * triangleSize k ≤ length xs
-    → sumOf (flipDegrees n1 pairs nb k) xs ≡ flip n1 (2 * pairs) nb k (λ i. getD xs i 0)
-flip-is n1 pairs nb k xs h =
-    sumOf-at (flipDegrees n1 pairs nb k) xs 0 (omega (arith, total-flip n1 pairs nb k))
-    ∙ flip-at (λ i. getD xs i 0) n1 pairs nb k
+flip-is : (n1 pairs nb k : ℕ) (x : ℕ → ℕ) (n : ℕ) → n1 + 2 * pairs + nb * triangleSize k ≤ n
+    → sumOf (flipDegrees n1 pairs nb k) (tab x n) ≡ flip n1 (2 * pairs) nb k x
+flip-is n1 pairs nb k x n h =
+    sumOf-at x n (flipDegrees n1 pairs nb k) 0 (omega (arith, total-flip n1 pairs nb k)) ∙ flip-at x n1 pairs nb k
 
 -- 001: a direct sum of monomials by its vector, whose first number is of degree d.
 unfoldable pub degreesFrom : ℕ → List ℕ → List ℕ
@@ -199,26 +200,20 @@ direct-at x d (m ∷ ms) at =
     ∙ ap₂ (λ (s t : ℕ). (s + t) % 2) (sumAt-replicate x m d at)
     (ap (λ (t : ℕ). sumAt (degreesFrom (suc d) ms) (at + t) x) (total-replicate m d) ∙ direct-at x (suc d) ms (at + d * m))
 
-pub direct-is : (d : ℕ) (ms xs : List ℕ) → total (degreesFrom d ms) ≤ length xs → sumOf (degreesFrom d ms) xs ≡ directSum d ms 0 (λ i. getD xs i 0)
-direct-is d ms xs h = sumOf-at (degreesFrom d ms) xs 0 (omega arith) ∙ direct-at (λ i. getD xs i 0) d ms 0
+direct-is : (d : ℕ) (ms : List ℕ) (x : ℕ → ℕ) (n : ℕ) → total (degreesFrom d ms) ≤ n → sumOf (degreesFrom d ms) (tab x n) ≡ directSum d ms 0 x
+direct-is d ms x n h = sumOf-at x n (degreesFrom d ms) 0 (omega arith) ∙ direct-at x d ms 0
 
--- The five published filters.
+-- The five published filters, each of a row's variables.
 sum-alone : (ds xs : List ℕ) → (sumOf ds xs + 0) % 2 ≡ sumOf ds xs
 sum-alone ds xs = omega (arith, sumOf-bit ds xs)
 
-pub flip530 : (xs : List ℕ) → 530 ≤ length xs → filterOf 1 xs ≡ flip 42 128 8 9 (λ i. getD xs i 0)
+pub flip530 : (x : ℕ → ℕ) → filterOf 1 (tab x 530) ≡ flip 42 128 8 9 x
 unfolding filterOf tailOf degreesOf
-flip530 xs h = sum-alone (degreesOf 1) xs ∙ flip-is 42 64 8 9 xs h
+flip530 x = sum-alone (degreesOf 1) (tab x 530) ∙ flip-is 42 64 8 9 x 530 (omega arith)
 
-pub flip1394 : (xs : List ℕ) → 1394 ≤ length xs → filterOf 2 xs ≡ flip 82 224 8 16 (λ i. getD xs i 0)
+pub flip1394 : (x : ℕ → ℕ) → filterOf 2 (tab x 1394) ≡ flip 82 224 8 16 x
 unfolding filterOf tailOf degreesOf
-flip1394 xs h = sum-alone (degreesOf 2) xs ∙ flip-is 82 112 8 16 xs h
-
-abbrev pub vector1216 : List ℕ
-vector1216 = 128 ∷ 64 ∷ 0 ∷ 80 ∷ 0 ∷ 0 ∷ 0 ∷ 80 ∷ []
-
-abbrev pub vector1280 : List ℕ
-vector1280 = 128 ∷ 64 ∷ 0 ∷ 0 ∷ 0 ∷ 0 ∷ 0 ∷ 0 ∷ 0 ∷ 0 ∷ 0 ∷ 0 ∷ 0 ∷ 0 ∷ 0 ∷ 64 ∷ []
+flip1394 x = sum-alone (degreesOf 2) (tab x 1394) ∙ flip-is 82 112 8 16 x 1394 (omega arith)
 
 degrees1216 : degreesOf 3 ≡ degreesFrom 1 vector1216
 unfolding degreesOf degreesFrom
@@ -236,24 +231,40 @@ total1280 : total (degreesFrom 1 vector1280) ≡ 1280
 unfolding total degreesFrom
 total1280 = refl
 
-pub filip1216 : (xs : List ℕ) → 1216 ≤ length xs → filterOf 3 xs ≡ directSum 1 vector1216 0 (λ i. getD xs i 0)
+pub filip1216 : (x : ℕ → ℕ) → filterOf 3 (tab x 1216) ≡ directSum 1 vector1216 0 x
 unfolding filterOf tailOf
-filip1216 xs h =
-    sum-alone (degreesOf 3) xs
-    ∙ ap (λ (ds : List ℕ). sumOf ds xs) degrees1216
-    ∙ direct-is 1 vector1216 xs (omega (arith, total1216))
+filip1216 x =
+    sum-alone (degreesOf 3) (tab x 1216)
+    ∙ ap (λ (ds : List ℕ). sumOf ds (tab x 1216)) degrees1216
+    ∙ direct-is 1 vector1216 x 1216 (omega (arith, total1216))
 
-pub filip1280 : (xs : List ℕ) → 1280 ≤ length xs → filterOf 4 xs ≡ directSum 1 vector1280 0 (λ i. getD xs i 0)
+pub filip1280 : (x : ℕ → ℕ) → filterOf 4 (tab x 1280) ≡ directSum 1 vector1280 0 x
 unfolding filterOf tailOf
-filip1280 xs h =
-    sum-alone (degreesOf 4) xs
-    ∙ ap (λ (ds : List ℕ). sumOf ds xs) degrees1280
-    ∙ direct-is 1 vector1280 xs (omega (arith, total1280))
+filip1280 x =
+    sum-alone (degreesOf 4) (tab x 1280)
+    ∙ ap (λ (ds : List ℕ). sumOf ds (tab x 1280)) degrees1280
+    ∙ direct-is 1 vector1280 x 1280 (omega (arith, total1280))
 
--- 81 variables summed, and a threshold of 63
-pub filip144 : (xs : List ℕ) → 144 ≤ length xs
-    → filterOf 5 xs ≡ (sum 81 (λ i. getD xs i 0) + threshold 32 (take 63 (drop 81 xs))) % 2
+-- 81 variables summed, and a threshold of the 63 others
+others : (x : ℕ → ℕ) (m n : ℕ) → take n (drop m (tab x (m + n))) ≡ tab (λ i. x (m + i)) n
+others x m n =
+    ap (λ (l : List ℕ). take n (drop m l)) (tab-add x m n)
+    ∙ ap (take n) (drop-at (tab x m) (tab (λ i. x (m + i)) n) m (tab-length x m))
+    ∙ take-all n (tab (λ i. x (m + i)) n) (omega (arith, tab-length (λ i. x (m + i)) n))
+
+pub filip144 : (x : ℕ → ℕ) → filterOf 5 (tab x 144) ≡ (sum 81 x + threshold 32 (tab (λ i. x (81 + i)) 63)) % 2
 unfolding filterOf tailOf degreesOf
-filip144 xs h =
-    ap (λ (s : ℕ). (s + threshold 32 (take 63 (drop 81 xs))) % 2)
-    (sumOf-at (replicate 81 1) xs 0 (omega (arith, total-replicate 81 1)) ∙ sumAt-ones (λ i. getD xs i 0) 81)
+filip144 x =
+    ap₂ (λ (s t : ℕ). (s + t) % 2)
+    (sumOf-at x 144 (replicate 81 1) 0 (omega (arith, total-replicate 81 1)) ∙ sumAt-ones x 81)
+    (ap (threshold 32) (others x 81 63))
+
+pub filter-published : (inst : ℕ) → 1 ≤ inst → inst ≤ 5 → (x : ℕ → ℕ) → filterOf inst (tab x (rowBits inst)) ≡ published inst x
+unfolding published sizesOf
+filter-published zero h l x = absurd (omega arith)
+filter-published (suc zero) h l x = flip530 x
+filter-published (suc (suc zero)) h l x = flip1394 x
+filter-published (suc (suc (suc zero))) h l x = filip1216 x
+filter-published (suc (suc (suc (suc zero)))) h l x = filip1280 x
+filter-published (suc (suc (suc (suc (suc zero))))) h l x = filip144 x
+filter-published (suc (suc (suc (suc (suc (suc i)))))) h l x = absurd (omega arith)

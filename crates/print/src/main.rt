@@ -4,6 +4,8 @@
 //
 // The longest line "d n" has 8 bytes, so 64 bytes decide: where the input is longer, they are no line
 // either, and both are refused (`long-refused` of crate text).
+use answer::Answer;
+
 const STANDARD_INPUT: i32 = 0;
 
 const STANDARD_OUTPUT: i32 = 1;
@@ -15,11 +17,15 @@ fn say(text: &[u8], size: usize) {
     }
 }
 
-// What is printed for an input. The text always fits (`printed-fits` of crate text).
+// What is printed for an input. The text always fits (`printed-fits` of crate text), so that is always done.
 fn print(input: &[u8]) {
     let mut text = [0u8; 131072];
-    let size = text::print_text(input, &mut text);
-    say(&text, size);
+    let printing = text::print_text(input, &mut text);
+    let answer = printing.answer;
+    let Answer::Done = answer else {
+        return;
+    };
+    say(&text, printing.size);
 }
 
 fn main() {

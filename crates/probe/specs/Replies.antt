@@ -19,6 +19,8 @@ use Rattle.emit.specs.Emit.{Emitted}
 use Rattle.path.specs.Path.{Scored}
 use Rattle.file.specs.declared.form.Form.the-variants.{Full}
 use Rattle.file.specs.File.{ReadAs, WrittenAs}
+use Rattle.text.specs.declared.Printing.{Printing}
+use Rattle.text.specs.Text.{Printed}
 use Rattle.frames.specs.declared.port.Made.{Made}
 use Rattle.frames.specs.declared.port.Made.the-variants.{Fitting, TooLarge}
 use Rattle.frames.specs.declared.port.Found.{Found}
@@ -27,6 +29,7 @@ use Rattle.frames.specs.Frames.{Appended, AppendedAfter, FramesRead}
 use Rattle.frames.specs.Layout.{bitsOf}
 use Rattle.probe.specs.declared.Reply.{Reply}
 use Rattle.probe.specs.declared.Metering.{Metering}
+use Rattle.probe.specs.declared.Printout.{Printout}
 use Rattle.probe.specs.declared.Fielding.{Fielding}
 use Rattle.probe.specs.declared.Putting.{Putting}
 
@@ -92,6 +95,19 @@ pub record WriteReply (net out : List ℕ) (r : Reply) (out′ : List ℕ) : Typ
   pub answer : Answer
   pub outcome : WrittenAs Full net out answer out′
   pub told : r ≡ replyOf answer
+
+unfoldable pub printoutOf : Printing → Printout
+printoutOf p = record {
+  number = numberOf (p .answer);
+  list = listOf (p .answer);
+  place = placeOf (p .answer);
+  size = p .size;
+}
+
+pub record PrintReply (input out : List ℕ) (r : Printout) (out′ : List ℕ) : Type 0 where
+  pub printing : Printing
+  pub outcome : Printed input out printing out′
+  pub told : r ≡ printoutOf printing
 
 pub record AppendReply (key rec iv s out : List ℕ) (r : Reply) (out′ : List ℕ) : Type 0 where
   pub answer : Answer

@@ -6,6 +6,7 @@ use frames::port::Made;
 use frames::port::Port;
 use meter::Level;
 use meter::Metered;
+use text::Printing;
 ghost use mathlib.Core.Path.{_≡_};
 ghost use lib.ListN.{length};
 ghost use Rattle.netlist.specs.Check.{netAnswer};
@@ -13,10 +14,9 @@ ghost use Rattle.cells.specs.Cells.{oneHotNet, thresholdNet};
 ghost use Rattle.emit.specs.Emit.{oneHotAnswer, thresholdAnswer, decipherNet, decipherAnswer};
 ghost use Rattle.file.specs.File.{checkAnswer};
 ghost use Rattle.file.specs.declared.form.Form.the-variants.{Full};
-ghost use Rattle.text.specs.Text.{Printed};
 ghost use Rattle.frames.specs.Frames.{fileAnswer};
 ghost use Rattle.frames.specs.Layout.{portOf, portMade, fieldsAnswer, foundBy};
-ghost use Rattle.probe.specs.Replies.{replyOf, meteringOf, EvaluateReply, MeterReply, GlueReply, ChooseReply, KeystreamReply, CipherReply, EmitReply, ScoreReply, ReadReply, WriteReply, AppendReply, AppendAfterReply, FramesReply, fieldingOf, puttingOf, bitsLeft};
+ghost use Rattle.probe.specs.Replies.{replyOf, meteringOf, EvaluateReply, MeterReply, GlueReply, ChooseReply, KeystreamReply, CipherReply, EmitReply, ScoreReply, ReadReply, WriteReply, printoutOf, PrintReply, AppendReply, AppendAfterReply, FramesReply, fieldingOf, puttingOf, bitsLeft};
 
 #[repr(C)]
 pub struct Reply {
@@ -32,6 +32,15 @@ pub struct Metering {
     pub place: usize,
     pub depth: u32,
     pub multiplications: u32,
+}
+
+// The length of a text, 0 on a refusal.
+#[repr(C)]
+pub struct Printout {
+    pub number: u32,
+    pub list: u32,
+    pub place: usize,
+    pub size: usize,
 }
 
 // A port's fields, all 0 on a refusal.
@@ -259,11 +268,24 @@ pub extern "C" fn probe_check_file(source: &[u8]) -> Reply
     told(file::check_file(source))
 }
 
-#[no_mangle]
-pub extern "C" fn probe_print(input: &[u8], result: &mut [u8]) -> usize
-    ensures { λ r. ⌜ Printed (now (input .entry)) (now (result .entry)) r (now (result .exit)) ⌝ }
+fn printout_of(printing: Printing) -> Printout
+    ensures { λ r. ⌜ r ≡ printoutOf printing ⌝ }
 {
-    text::print_text(input, result)
+    let answer = printing.answer;
+    let r = told(answer);
+    Printout {
+        number: r.number,
+        list: r.list,
+        place: r.place,
+        size: printing.size,
+    }
+}
+
+#[no_mangle]
+pub extern "C" fn probe_print(input: &[u8], result: &mut [u8]) -> Printout
+    ensures { λ r. ⌜ PrintReply (now (input .entry)) (now (result .entry)) r (now (result .exit)) ⌝ }
+{
+    printout_of(text::print_text(input, result))
 }
 
 #[no_mangle]

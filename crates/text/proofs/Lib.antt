@@ -4,5 +4,6 @@ pub mod Reading
 pub mod Netlists
 pub mod Thresholds
 pub mod Fits
-pub mod Printing
+pub mod Cases
 pub mod Lines
+pub mod Samples

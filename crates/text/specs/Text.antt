@@ -4,17 +4,19 @@ use Prim.Native.Nat.{ℕ, suc}
 use mathlib.Core.Path.{_≡_}
 use mathlib.Core.List.{List, [], _∷_, _++_}
 use lib.ListN.{length, drop}
-use lib.Dec.{leb}
 use Rattle.answer.specs.Choose.{choose}
-use Rattle.answer.specs.Fronts.{over}
+use Rattle.answer.specs.Fronts.{left}
 use Rattle.netlist.specs.declared.gate.Gate.{Gate}
 use Rattle.netlist.specs.declared.gate.Gate.the-variants.{Zero, One, Not, Xor, And, Mux}
 use Rattle.netlist.specs.Net.{Net, depth, mults}
 use Rattle.netlist.specs.Words.{inputsOf, gatesOf, outputsOf, gatePlace, gatesAt}
+use Rattle.meter.specs.Meter.{ifDone}
+use Rattle.instance.specs.Judging.{roomAnswer}
 use Rattle.cells.specs.Cells.{thresholdNet}
 use Rattle.emit.specs.Emit.{noThreshold}
 use Rattle.text.specs.declared.Asked.{Asked}
 use Rattle.text.specs.declared.Asked.the-variants.{Line, Nothing}
+use Rattle.text.specs.declared.Printing.{Printing}
 use Rattle.text.specs.Decimal.{decimal}
 use Rattle.text.specs.Asked.{askedOf}
 
@@ -93,11 +95,16 @@ textOf (Line d n) = thresholdText d n
 unfoldable pub printed : List ℕ → List ℕ
 printed input = textOf (askedOf input)
 
--- a call that was to print for an input: the text at the front of the result and its length, where there is room;
--- otherwise nothing, and 0
-pub record Printed (input old : List ℕ) (r : ℕ) (new : List ℕ) : Type 0 where
-  pub size : r ≡ choose (leb (length (printed input)) (length old)) (length (printed input)) 0
-  pub written : new ≡ choose (leb (length (printed input)) (length old)) (over (printed input) old) old
+-- What a call that was to give a text returns, and what it leaves in the result: document 01's 8 where there is no room.
+-- Lists: 1 the input, 2 the result.
+pub record Kept (text old : List ℕ) (r : Printing) (new : List ℕ) : Type 0 where
+  pub answered : r .answer ≡ roomAnswer 2 (length old) (length text)
+  pub sized : r .size ≡ ifDone (r .answer) (length text)
+  pub written : new ≡ left (r .answer) text old
+
+-- a call that was to print for an input
+abbrev pub Printed : List ℕ → List ℕ → Printing → List ℕ → Type 0
+Printed input old r new = Kept (printed input) old r new
 
 -- For the code: the same text from a netlist's words. I, G and O are those of its header, D its depth, M its
 -- multiplications

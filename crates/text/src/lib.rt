@@ -6,20 +6,24 @@ mod net;
 mod put;
 mod threshold;
 
+use answer::Answer;
 ghost use mathlib.Core.Path.{_≡_};
 ghost use Prim.Native.Nat.{_≤_};
 ghost use lib.ListN.{length, take};
-ghost use lib.Dec.{leb};
-ghost use Rattle.answer.specs.Choose.{choose};
-ghost use Rattle.answer.specs.Fronts.{over};
 ghost use Rattle.text.specs.Asked.{askedOf};
-ghost use Rattle.text.specs.Text.{printed, Printed};
+ghost use Rattle.text.specs.Text.{printed, Kept, Printed};
 ghost use Rattle.text.specs.Puts.{Wrote};
 
 // A line "d n", or anything else.
 pub enum Asked {
     Line { d: u32, n: u32 },
     Nothing,
+}
+
+// The answer, with the length of the text, 0 on a refusal.
+pub struct Printing {
+    pub answer: Answer,
+    pub size: usize,
 }
 
 // What a whole input asks.
@@ -43,22 +47,25 @@ fn write(input: &[u8], text: &mut [u8]) -> usize
     threshold::put_threshold(text, d, n, &mut words)
 }
 
-// The first bytes of a text copied to the front of the result where there is room, and their number;
-// otherwise 0.
-fn keep(text: &[u8], size: usize, result: &mut [u8]) -> usize
+// The first bytes of a text copied to the front of the result. Judged 8; the result is list 2, after the input.
+fn keep(text: &[u8], size: usize, result: &mut [u8]) -> Printing
     requires { ⌜ size ≤ length (now text) ⌝ }
-    ensures { λ r. ⌜ r ≡ choose (leb size (length (now (result .entry)))) size 0 ⌝ }
-    ensures { λ _. ⌜ now (result .exit) ≡ choose (leb size (length (now (result .entry)))) (over (take size (now (text .entry))) (now (result .entry))) (now (result .entry)) ⌝ }
+    ensures { λ r. ⌜ Kept (take size (now (text .entry))) (now (result .entry)) r (now (result .exit)) ⌝ }
 {
-    if result.len() < size {
-        return 0;
+    let r = instance::room(result.len(), size, 2);
+    let Answer::Done = r else {
+        return Printing { answer: r, size: 0 };
+    };
+    let end = put::put_bytes(result, 0, &text[..size]);
+    Printing {
+        answer: Answer::Done,
+        size: end,
     }
-    put::put_bytes(result, 0, &text[..size])
 }
 
-// What is printed on a whole input, at the front of the result, and its length, which is never above
-// 131,072 (`printed-fits`). Where the result is too short nothing is written, and the length is given as 0.
-pub fn print_text(input: &[u8], result: &mut [u8]) -> usize
+// What is printed on a whole input, at the front of the result. It is never longer than 131,072 bytes
+// (`printed-fits`).
+pub fn print_text(input: &[u8], result: &mut [u8]) -> Printing
     ensures { λ r. ⌜ Printed (now (input .entry)) (now (result .entry)) r (now (result .exit)) ⌝ }
 {
     let mut text = [0u8; 131072];

@@ -11,6 +11,30 @@ pub const NAMES: [&str; 6] = ["ZERO", "ONE", "NOT", "XOR", "AND", "MUX"];
 
 pub const REFUSED: &str = "refused 13\n";
 
+/// What a call answers, with the text's length, 0 on a refusal.
+#[derive(Clone, Copy, Debug, PartialEq, Eq)]
+pub struct Printing {
+    pub answer: Answer,
+    pub size: usize,
+}
+
+/// Prints for that input at the front of the result.
+pub fn print(input: &[u8], result: &mut [u8]) -> Printing {
+    let text = printed(input);
+    let (room, size) = (result.len(), text.len());
+    match result.get_mut(..size) {
+        Some(front) => {
+            front.copy_from_slice(&text);
+            let answer = Answer::DONE;
+            Printing { answer, size }
+        }
+        None => {
+            let answer = Answer::too_short(2, room);
+            Printing { answer, size: 0 }
+        }
+    }
+}
+
 /// What is printed for that input, which has to be one line.
 pub fn printed(input: &[u8]) -> Vec<u8> {
     let text = asked(input).and_then(|(d, n)| threshold(d, n));

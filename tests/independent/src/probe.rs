@@ -4,6 +4,7 @@
 use crate::frames::{Fields, Put, Taken};
 use crate::netlist::{Answer, Level, Metering};
 use crate::path::{Read, Rooms};
+use crate::printing::Printing;
 use std::mem::MaybeUninit;
 
 #[repr(C)]
@@ -20,6 +21,14 @@ struct RawMetering {
     place: usize,
     depth: u32,
     multiplications: u32,
+}
+
+#[repr(C)]
+struct RawPrinting {
+    number: u32,
+    list: u32,
+    place: usize,
+    size: usize,
 }
 
 #[repr(C)]
@@ -184,12 +193,14 @@ extern "C" {
 
     fn probe_check_file(source: *const u8, source_length: usize) -> RawReply;
 
+    /// Returned as by `probe_meter`.
     fn probe_print(
+        returned: *mut RawPrinting,
         input: *const u8,
         input_length: usize,
         result: *mut u8,
         result_length: usize,
-    ) -> usize;
+    ) -> *mut RawPrinting;
 
     fn probe_append(
         key: *const u8,
@@ -509,16 +520,26 @@ pub fn check_file(source: &[u8]) -> Answer {
     unsafe { probe_check_file(source.as_ptr(), source.len()) }.into()
 }
 
-/// The length of the text, or 0 if there is no room for it.
-pub fn print(input: &[u8], result: &mut [u8]) -> usize {
-    // SAFETY: as in `check`.
-    unsafe {
+pub fn print(input: &[u8], result: &mut [u8]) -> Printing {
+    let mut returned = MaybeUninit::uninit();
+    // SAFETY: as in `meter`.
+    let raw = unsafe {
         probe_print(
+            returned.as_mut_ptr(),
             input.as_ptr(),
             input.len(),
             result.as_mut_ptr(),
             result.len(),
-        )
+        );
+        returned.assume_init()
+    };
+    Printing {
+        answer: Answer {
+            number: raw.number,
+            list: raw.list,
+            place: raw.place,
+        },
+        size: raw.size,
     }
 }
 

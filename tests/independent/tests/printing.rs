@@ -1,24 +1,42 @@
-//! Hands the library and the Rust program the same input and compares the
-//! printed text: every netlist that can be asked for, and input that is no such
-//! line.
+//! Hands the library and the Rust program the same input and compares answers
+//! and printed text: every netlist that can be asked for, and input that is no
+//! such line.
 
 use independent::lent::{show, Lent};
-use independent::printing::{printed, REFUSED};
+use independent::netlist::Answer;
+use independent::printing::{self, printed, Printing, REFUSED};
 use independent::probe;
 use independent::random::{fill, seeded};
 
-/// Has the library print into that room. The text is that of the Rust program
-/// where there is room for it, and nothing is written where there is none.
+/// Has both programs print into that room. Where there is none for the text,
+/// that is answered, and nothing is written.
 fn print(input: &[u8], text: &[u8], room: usize) {
     let case = || format!("printing for {}, {room} bytes of room", show(input));
     let stale = fill(&mut seeded(400), room);
     let (mut input, mut result) = (Lent::new(input), Lent::new(&stale));
-    let length = probe::print(input.library(), result.library());
-    let expected = if text.len() <= room { text.len() } else { 0 };
-    result.rust()[..expected].copy_from_slice(&text[..expected]);
-    assert_eq!(length, expected, "library, rust; {}", case());
+    let library = probe::print(input.library(), result.library());
+    let rust = printing::print(input.rust(), result.rust());
+    assert_eq!(library, rust, "library, rust; {}", case());
+    let expected = if text.len() <= room {
+        done(text.len())
+    } else {
+        short(room)
+    };
+    assert_eq!(library, expected, "{}", case());
     input.settle(0, "input", &case);
-    result.settle(expected, "text", &case);
+    result.settle(expected.size, "text", &case);
+}
+
+/// A text of that length.
+fn done(size: usize) -> Printing {
+    let answer = Answer::DONE;
+    Printing { answer, size }
+}
+
+/// That there is no room for the text.
+fn short(room: usize) -> Printing {
+    let answer = Answer::new(8, 2, room);
+    Printing { answer, size: 0 }
 }
 
 /// Rooms of every kind: none, too little, the exact one, and more.
@@ -50,11 +68,16 @@ in 3 gates 5 out 1 depth 2 mult 3
 7 XOR 6 5
 out 7
 ";
+    let length = expected.len();
     let mut result = [9; 100];
-    let length = probe::print(b"2 3\n", &mut result);
+    let room = &mut result[..length - 1];
+    assert_eq!(probe::print(b"2 3\n", room), short(length - 1));
+    assert_eq!(result, [9; 100]);
+    assert_eq!(probe::print(b"2 3\n", &mut result), done(length));
     assert_eq!(result[..length], *expected.as_bytes());
     assert_eq!(result[length..], [9; 100][length..]);
-    assert_eq!(probe::print(b"3 2\n2\n", &mut result), REFUSED.len());
+    let refused = done(REFUSED.len());
+    assert_eq!(probe::print(b"3 2\n2\n", &mut result), refused);
     assert_eq!(result[..REFUSED.len()], *REFUSED.as_bytes());
     // The text before is still there after that.
     assert_eq!(
@@ -231,7 +254,8 @@ fn every_short_input() {
                 .collect();
             let text = printed(&input);
             let mut result = vec![7; text.len()];
-            assert_eq!(probe::print(&input, &mut result), text.len(), "{input:?}");
+            let printing = probe::print(&input, &mut result);
+            assert_eq!(printing, done(text.len()), "{input:?}");
             assert!(result == text, "{input:?}");
             good += usize::from(text != REFUSED.as_bytes());
         }
@@ -300,7 +324,7 @@ fn small_stack() {
     let text = printed(b"32 64\n");
     let mut result = vec![9; text.len()];
     std::thread::scope(|scope| {
-        let call = || assert_eq!(probe::print(b"32 64\n", &mut result), text.len());
+        let call = || assert_eq!(probe::print(b"32 64\n", &mut result), done(text.len()));
         let thread = std::thread::Builder::new().stack_size(STACK);
         let thread = thread.spawn_scoped(scope, call).expect("a thread");
         thread.join().expect("the call ends well");

@@ -1,5 +1,5 @@
 use denote.Ref.{now}
-use Rattle.text.proofs.Printing.{size-within, kept-text}
+use Rattle.text.proofs.Cases.{size-within, kept-text}
 use borrow.Author.Needs.{needs}
 use Rattle.text.proofs.print_text.Statement.{statement}
 use Rattle.text.proofs.print_text.Tie as tie
@@ -20,7 +20,7 @@ same-length : tie.Need-same-length
 same-length c = search needs
 
 returns : tie.Need-returns
-returns c = kept-text _ _ _ _ (c .before .before .before .before .before .before .write .ensures) (search needs) _ (now (c .before .before .before .before .before .before .before .before .before .before .args .result)) _ (c .before .before .keep .ensures)
+returns c = kept-text _ _ _ _ (c .before .before .before .before .before .before .write .ensures) (search needs) (now (c .before .before .before .before .before .before .before .before .before .before .args .result)) _ _ (c .before .before .keep .ensures)
 
 pub print-text-spec : {M : Type 1} → statement M
 print-text-spec =

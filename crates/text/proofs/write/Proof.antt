@@ -1,5 +1,5 @@
 use Rattle.text.proofs.Parts.{moved-wrote}
-use Rattle.text.proofs.Printing.{printed-nothing, printed-line}
+use Rattle.text.proofs.Cases.{printed-nothing, printed-line}
 use borrow.Author.Needs.{needs}
 use Rattle.text.proofs.write.Statement.{statement}
 use Rattle.text.proofs.write.Tie as tie

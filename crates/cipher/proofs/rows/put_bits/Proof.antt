@@ -2,7 +2,7 @@ use mathlib.Core.Path.{sym, _≡_, ap, _∙_}
 use lib.ListN.{take, drop, length-take, length-append, length-drop, length}
 use lib.Seq.{getD-drop}
 use Rattle.answer.proofs.Over.{tail-is, tail-room}
-use Rattle.cipher.proofs.Variables.{within, row-in, bit-is}
+use Rattle.cipher.proofs.Variables.{within, row-next, row-in, bit-is}
 use Rattle.instance.specs.Table.{rowBits}
 use Prim.Native.Nat.{ℕ, _+_, _*_, _≤_, _-_}
 use native.Mathlib.Nat.{mul-le-mul}
@@ -17,16 +17,16 @@ use Rattle.cipher.proofs.rows.put_bits.Statement.{statement}
 use Rattle.cipher.proofs.rows.put_bits.Tie as tie
 
 abbrev Inv-loop : tie.InvT-loop
-Inv-loop instance row key indices whitening x₀ out₀ i₀ x out i = (out ≡ over (tab (streamBit instance key indices whitening) i) out₀) × (i ≤ length out₀) × (length out ≡ length out₀) × (length x ≡ length x₀)
+Inv-loop instance row key indices whitening x₀ out₀ at₀ i₀ x out at i = (out ≡ over (tab (streamBit instance key indices whitening) i) out₀) × (i ≤ length out₀) × (length out ≡ length out₀) × (length x ≡ length x₀) × (at ≡ i * row)
 
 abbrev μ-loop : tie.MeasureT-loop
-μ-loop instance row key indices whitening x₀ out₀ i₀ x out i = length out₀ - i
+μ-loop instance row key indices whitening x₀ out₀ at₀ i₀ x out at i = length out₀ - i
 
 -- row i and its whitening are there
 there : (c : tie.In-loop Inv-loop μ-loop) →
     let l = c .before .loop in
     let a = c .before .before .before .before .before .before .before .args in
-    (l .i * a .row + a .row ≤ length (a .indices .now)) × (l .i * a .row + a .row ≤ length (a .whitening .now)) × (l .i * a .row ≤ 64 * 1394) × (a .row ≤ length (a .x .now))
+    (l .at + a .row ≤ length (a .indices .now)) × (l .at + a .row ≤ length (a .whitening .now)) × (l .at ≤ 64 * 1394) × (a .row ≤ length (a .x .now))
 there c =
     let l = c .before .loop in
     let s = c .before .before .before .before .before .before .before in
@@ -34,13 +34,11 @@ there c =
     let e = s .pre .1 in
     let r = row-in (l .i) (length (s .args .out .now)) (s .args .row) (search needs) in
     let n : length (s .args .out .now) * s .args .row ≡ length (s .args .out .now) * rowBits (s .args .instance) = ap (λ (x : ℕ). length (s .args .out .now) * x) e in
-    (omega (arith, p .indices), omega (arith, p .whitening), mul-le-mul {n₂ = 64} {m₂ = 1394} (omega (arith, p .few)) (omega (arith, row-small (s .args .instance))), omega (arith, p .fits))
+    let m : l .i * s .args .row ≤ 64 * 1394 = mul-le-mul {n₂ = 64} {m₂ = 1394} (omega (arith, p .few)) (omega (arith, row-small (s .args .instance))) in
+    (omega (arith, p .indices, l .inv .4), omega (arith, p .whitening, l .inv .4), omega (arith, m, l .inv .4), omega (arith, p .fits))
 
 loop-holds : tie.Need-loop-holds Inv-loop μ-loop
-loop-holds c = (tab-none _ _, search needs, search needs, search needs)
-
-mul-at : tie.Need-mul-at Inv-loop μ-loop
-mul-at c = omega (arith, there c)
+loop-holds c = (tab-none _ _, search needs, search needs, search needs, omega arith)
 
 mul-row-bit : tie.Need-mul-row-bit Inv-loop μ-loop
 mul-row-bit c = omega (arith, there c)
@@ -74,15 +72,17 @@ row-bit-requires c κs =
     let t = c .before .before .before in
     let l = t .before .loop in
     let s = c .before .before .before .before .before .before .before .before .before .before in
-    let at = l .i * s .args .row in
     let n : length (take (s .args .row) (l .x)) ≡ s .args .row = omega (arith, length-take (s .args .row) (l .x), there t) in (
-      omega (arith, tail-room at (s .args .indices .now), there t),
-      omega (arith, tail-room at (s .args .whitening .now), there t),
-      λ j h. rw (tail-is at (s .args .indices .now), getD-drop at (s .args .indices .now) j 0) (s .pre .0 .below (at + j) (within (l .i) (length (s .args .out .now)) (s .args .row) j (s .pre .1) (search needs) (omega arith))),
+      omega (arith, tail-room (l .at) (s .args .indices .now), there t),
+      omega (arith, tail-room (l .at) (s .args .whitening .now), there t),
+      λ j h. rw (tail-is (l .at) (s .args .indices .now), getD-drop (l .at) (s .args .indices .now) j 0) (s .pre .0 .below (l .at + j) (omega (arith, l .inv .4, within (l .i) (length (s .args .out .now)) (s .args .row) j (s .pre .1) (search needs) (omega arith)))),
     )
 
 slice-write-out : tie.Need-slice-write-out Inv-loop μ-loop
 slice-write-out c = search needs
+
+add-at : tie.Need-add-at Inv-loop μ-loop
+add-at c = omega (arith, there (c .before .before .before .before .before .before))
 
 add-i : tie.Need-add-i Inv-loop μ-loop
 add-i c = search needs
@@ -95,13 +95,12 @@ loop-again c =
     let t = c .before .before .before .before .before .before in
     let l = t .before .loop in
     let s = c .before .before .before .before .before .before .before .before .before .before .before .before .before in
-    let at = l .i * s .args .row in
     let n : length (take (s .args .row) (l .x)) ≡ s .args .row = omega (arith, length-take (s .args .row) (l .x), there t) in
     let f = streamBit (s .args .instance) (s .args .key .now) (s .args .indices .now) (s .args .whitening .now) in
     let b : c .before .before .row-bit .result ≡ f (l .i) =
     c .before .before .row-bit .ensures
-    ∙ bit-is (s .args .instance) (s .args .key .now) (s .args .indices .now) (s .args .whitening .now) (l .i) (n ∙ s .pre .1) (ap (λ (x : ℕ). l .i * x) (sym n)) (tail-is at (s .args .indices .now)) (tail-is at (s .args .whitening .now)) in
-    (rw (l .inv .0) (tab-more f (s .args .out .now) (l .i) _ (search needs) b), search needs, search needs, omega (arith, c .before .x .given, length-append (c .before .before .row-bit .last .1 .1 .1 .1 .0) (drop (s .args .row) (l .x)), length-drop (s .args .row) (l .x), there t))
+    ∙ bit-is (s .args .instance) (s .args .key .now) (s .args .indices .now) (s .args .whitening .now) (l .i) (n ∙ s .pre .1) (l .inv .4 ∙ ap (λ (x : ℕ). l .i * x) (sym n)) (tail-is (l .at) (s .args .indices .now)) (tail-is (l .at) (s .args .whitening .now)) in
+    (rw (l .inv .0) (tab-more f (s .args .out .now) (l .i) _ (search needs) b), search needs, search needs, omega (arith, c .before .x .given, length-append (c .before .before .row-bit .last .1 .1 .1 .1 .0) (drop (s .args .row) (l .x)), length-drop (s .args .row) (l .x), there t), omega (arith, l .inv .4, row-next (l .i) (s .args .row)))
 
 same-length : tie.Need-same-length Inv-loop μ-loop
 same-length c = search needs
@@ -123,7 +122,6 @@ put-bits-spec =
     Inv-loop
     μ-loop
     loop-holds
-    mul-at
     mul-row-bit
     sub-row-bit
     part-row-bit-start
@@ -135,6 +133,7 @@ put-bits-spec =
     slice-aggregate-row-bit
     row-bit-requires
     slice-write-out
+    add-at
     add-i
     loop-less
     loop-again

@@ -1,5 +1,5 @@
 use Rattle.text.proofs.Parts.{first-room, next-room, wrote-then, moved-room, moved-wrote}
-use Rattle.text.proofs.Printing.{netlist-room, netlist-text, emitted-few, emitted-text}
+use Rattle.text.proofs.Cases.{netlist-room, netlist-text, emitted-few, emitted-text}
 use borrow.Author.Needs.{needs}
 use Rattle.text.proofs.threshold.put_emitted.Statement.{statement}
 use Rattle.text.proofs.threshold.put_emitted.Tie as tie

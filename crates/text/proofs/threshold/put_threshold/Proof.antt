@@ -2,7 +2,7 @@ use native.Mathlib.Omega.{arith}
 use mathlib.Core.Path.{sym}
 use lib.Seq.{length-take-le}
 use Rattle.text.proofs.Parts.{moved-wrote}
-use Rattle.text.proofs.Printing.{refused-text, done-netlist, done-words, done-room}
+use Rattle.text.proofs.Cases.{refused-text, done-netlist, done-words, done-room}
 use borrow.Author.Needs.{needs}
 use Rattle.text.proofs.threshold.put_threshold.Statement.{statement}
 use Rattle.text.proofs.threshold.put_threshold.Tie as tie

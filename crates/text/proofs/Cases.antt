@@ -1,21 +1,21 @@
 -- The printed text by its cases, as the code comes to them.
-use Prim.Native.Nat.{ℕ, _+_, _*_, _≤_, _<_}
+use Prim.Native.Nat.{ℕ, _+_, _*_, _≤_}
 use mathlib.Core.Bool.{Bool, true, false}
-use mathlib.Core.Path.{_≡_, refl, sym, ap, _∙_}
+use mathlib.Core.Path.{_≡_, refl, sym, ap, subst, _∙_}
 use mathlib.Core.List.{List, _++_}
 use native.Mathlib.Omega.{arith}
-use borrow.Author.Tests.{le-leb, lt-leb, le-ltb}
+use borrow.Author.Tests.{le-ltb, ltb-false}
 use lib.ListN.{length, getD, take, drop, length-append}
 use lib.Seq.{length-take-le}
-use lib.Dec.{leb}
 use Rattle.answer.specs.declared.Answer.{Answer}
 use Rattle.answer.specs.declared.Answer.the-variants.{Done, Refused}
 use Rattle.answer.specs.Choose.{choose}
 use Rattle.answer.specs.Fronts.{over}
 use Rattle.answer.proofs.Rows.{first-done, refuse-done, refuse-not, both}
-use Rattle.answer.proofs.Over.{made, over-at, take-over}
+use Rattle.answer.proofs.Over.{kept, made, over-at, take-over}
 use Rattle.netlist.specs.Net.{depth, mults}
 use Rattle.netlist.specs.Words.{inputsOf, gatesOf, words}
+use Rattle.meter.proofs.Judged.{none, some}
 use Rattle.instance.specs.Judging.{roomAnswer}
 use Rattle.cells.specs.Cells.{thresholdNet}
 use Rattle.cells.proofs.Facts.{threshold-outputs}
@@ -23,8 +23,9 @@ use Rattle.emit.specs.Emit.{noThreshold, thresholdAnswer, Emitted}
 use Rattle.emit.proofs.Puts.{words-length}
 use Rattle.text.specs.declared.Asked.{Asked}
 use Rattle.text.specs.declared.Asked.the-variants.{Line, Nothing}
+use Rattle.text.specs.declared.Printing.{Printing}
 use Rattle.text.specs.Asked.{askedOf}
-use Rattle.text.specs.Text.{titleLine, netText, wordsText, refusal, thresholdText, textOf, printed, Printed}
+use Rattle.text.specs.Text.{titleLine, netText, wordsText, refusal, thresholdText, textOf, printed, Kept, Printed}
 use Rattle.text.specs.Puts.{Room, Wrote}
 use Rattle.text.proofs.Fits.{netlist-fits, threshold-few, printed-fits}
 use Rattle.text.proofs.Netlists.{words-text}
@@ -100,42 +101,50 @@ module _ (d n : ℕ) (old new : List ℕ) (r : Answer) (e : Emitted (thresholdAn
   done-room g h = omega (arith, done-count g h, ap length done-over, length-append (words (thresholdNet d n)) (drop (length (words (thresholdNet d n))) old))
 
 -- kept in the result, or not
-pub keep-none : (size : ℕ) (front old : List ℕ) → length old < size
-    → (0 ≡ choose (leb size (length old)) size 0) × (old ≡ choose (leb size (length old)) front old)
-keep-none size front old h = rw (lt-leb size (length old) h) (refl, refl)
+pub keep-none : (size : ℕ) (text old : List ℕ) (r : Answer) {x y z : ℕ} → size ≤ length text → r ≡ roomAnswer 2 (length old) size → r ≡ Refused x y z
+    → Kept (take size text) old (record { answer = r; size = 0 }) old
+keep-none size text old r k e h =
+    record {
+      answered = e ∙ ap (roomAnswer 2 (length old)) (sym (length-take-le size text k));
+      sized = none _ h;
+      written = kept _ _ h;
+    }
 
-pub keep-all : (size r : ℕ) (text old new : List ℕ) → size ≤ length old → size ≤ length text → Wrote (take size text) old 0 new r
-    → (r ≡ choose (leb size (length old)) size 0) × (new ≡ choose (leb size (length old)) (over (take size text) old) old)
-keep-all size r text old new h k w =
+pub room-fits : (len needed : ℕ) (r : Answer) → r ≡ roomAnswer 2 len needed → r ≡ Done → needed ≤ len
+unfolding roomAnswer
+room-fits len needed r e h = ltb-false _ _ (refuse-done _ _ _ _ (sym e ∙ h))
+
+pub keep-all : (size end : ℕ) (text old new : List ℕ) (r : Answer) → size ≤ length text → r ≡ roomAnswer 2 (length old) size → r ≡ Done
+    → Wrote (take size text) old 0 new end → Kept (take size text) old (record { answer = Done; size = end }) new
+keep-all size end text old new r k e h w =
     let l = length-take-le size text k in
-    rw (le-leb size (length old) h) (omega (arith, w .past), wrote-front (record { fits = omega arith }) w)
+    record {
+      answered = sym h ∙ e ∙ ap (roomAnswer 2 (length old)) (sym l);
+      sized = omega (arith, w .past) ∙ some _ refl;
+      written = wrote-front (record { fits = omega (arith, room-fits (length old) size r e h) }) w ∙ made _ _ refl;
+    }
 
 -- the text, and what is kept of the list that it was stored into
 module _ (input list new : List ℕ) (size : ℕ) (w : Wrote (printed input) list 0 new size) (h : 131072 ≤ length list) where
-  pub size-is : size ≡ length (printed input)
+  size-is : size ≡ length (printed input)
   size-is = omega (arith, w .past)
 
   pub size-within : size ≤ length new
   size-within = omega (arith, size-is, printed-fits input, wrote-size w)
 
-  pub text-is : take size new ≡ printed input
+  text-is : take size new ≡ printed input
   text-is =
       ap (λ (k : ℕ). take k new) size-is
       ∙ ap (take (length (printed input))) (wrote-front (record { fits = omega (arith, printed-fits input) }) w)
       ∙ take-over (printed input) list
 
-  pub kept-text : (r : ℕ) (old last : List ℕ) → (r ≡ choose (leb size (length old)) size 0)
-      × (last ≡ choose (leb size (length old)) (over (take size new) old) old)
-      → Printed input old r last
-  kept-text r old last k =
-      record {
-        size = k .0 ∙ ap (λ (z : ℕ). choose (leb z (length old)) z 0) size-is;
-        written = k .1 ∙ (λ i. choose (leb (size-is i) (length old)) (over (text-is i) old) old);
-      }
+  pub kept-text : (old : List ℕ) (r : Printing) (last : List ℕ) → Kept (take size new) old r last → Printed input old r last
+  kept-text old r last k = subst (λ (t : List ℕ). Kept t old r last) text-is k
 
 -- with 131,072 bytes lent the text is always there
-pub print-whole : (input old : List ℕ) (r : ℕ) (new : List ℕ) → 131072 ≤ length old → Printed input old r new
-    → (r ≡ length (printed input)) × (new ≡ over (printed input) old)
+pub print-whole : (input old : List ℕ) (r : Printing) (new : List ℕ) → 131072 ≤ length old → Printed input old r new
+    → (r .answer ≡ Done) × (r .size ≡ length (printed input)) × (new ≡ over (printed input) old)
+unfolding roomAnswer
 print-whole input old r new h p =
-    let e = le-leb (length (printed input)) (length old) (omega (arith, printed-fits input)) in
-    (rw e at (p .size), rw e at (p .written))
+    let e = p .answered ∙ refuse-not 8 2 (length old) (le-ltb (length old) _ (omega (arith, printed-fits input))) in
+    (e, p .sized ∙ sym (some _ e), p .written ∙ sym (made _ _ e))
