@@ -17,8 +17,8 @@ use Rattle.meter.specs.Meter.{ifDone, MeteredAs}
 use Rattle.glue.specs.Glue.{GluedAs}
 use Rattle.choice.specs.Choice.{Chosen}
 use Rattle.cipher.specs.Cipher.{Streamed, Ciphered}
-use Rattle.kreyvium.specs.declared.Block.{Block}
-use Rattle.kreyvium.specs.Kreyvium.{Registers, rounds, stream, streamOf}
+use Rattle.kreyvium.specs.declared.State.{State}
+use Rattle.kreyvium.specs.Kreyvium.{Registers, outOf, rounds, stream, streamOf}
 use Rattle.kreyvium.specs.Words.{tops, stateOf}
 use Rattle.kreyvium.proofs.Bits.{tops-decide}
 use Rattle.frames.specs.declared.port.Port.{Port}
@@ -141,18 +141,28 @@ print-decides input out {r} {s} x y =
 pub parse-decides : (input : List ℕ) {r s : Asked} → r ≡ askedOf input → s ≡ askedOf input → r ≡ s
 parse-decides input p q = equation-decides (askedOf input) p q
 
--- Kreyvium's words of keystream: 64 bits, the first the highest. A promise that returns a state fixes the registers that it
--- stands for, and by them all that can be learnt of it: its output bit and the block of the 64 bits after it.
+-- Kreyvium's words of keystream: 64 bits, the first the highest
 pub stream64-decides : (key iv : List ℕ) {r s : ℕ} → r < 2 ^ 64 → s < 2 ^ 64 → ((n : ℕ) → n ≤ 64 → tops n r ≡ streamOf key iv n)
     → ((n : ℕ) → n ≤ 64 → tops n s ≡ streamOf key iv n) → r ≡ s
 stream64-decides key iv h k p q = tops-decide _ _ h k (p 64 (omega arith) ∙ sym (q 64 (omega arith)))
 
-pub rounds64-decides : (a : Registers ℕ) (r s : Block) → r .z < 2 ^ 64 → s .z < 2 ^ 64
-    → (stateOf (r .next) ≡ rounds 64 a) × ((n : ℕ) → n ≤ 64 → tops n (r .z) ≡ stream n a)
-    → (stateOf (s .next) ≡ rounds 64 a) × ((n : ℕ) → n ≤ 64 → tops n (s .z) ≡ stream n a)
-    → (stateOf (r .next) ≡ stateOf (s .next)) × (r .z ≡ s .z)
-rounds64-decides a r s h k p q =
-    (p .0 ∙ sym (q .0), tops-decide (r .z) (s .z) h k (p .1 64 (omega arith) ∙ sym (q .1 64 (omega arith))))
+-- A promise that returns a Kreyvium state fixes the registers that it stands for. States of the same registers cannot be told
+-- apart: their fields are private, and each function that takes a state gives equal outputs, or again the same registers.
+pub output-decides : (a b : State) → stateOf a ≡ stateOf b → {r s : ℕ} → r ≡ outOf (stateOf a) → s ≡ outOf (stateOf b) → r ≡ s
+output-decides a b e p q = p ∙ ap outOf e ∙ sym q
+
+pub outputs64-decides : (a b : State) → stateOf a ≡ stateOf b → {r s : ℕ} → r < 2 ^ 64 → s < 2 ^ 64
+    → ((n : ℕ) → n ≤ 64 → tops n r ≡ stream n (stateOf a)) → ((n : ℕ) → n ≤ 64 → tops n s ≡ stream n (stateOf b)) → r ≡ s
+outputs64-decides a b e h k p q = tops-decide _ _ h k (p 64 (omega arith) ∙ ap (stream 64) e ∙ sym (q 64 (omega arith)))
+
+-- round, rounds64, warmed and with_stars, where f is what they make of the registers
+pub state-decides : (f : Registers ℕ → Registers ℕ) (a b : State) → stateOf a ≡ stateOf b → (r s : State) → stateOf r ≡ f (stateOf a) → stateOf s ≡ f (stateOf b)
+    → stateOf r ≡ stateOf s
+state-decides f a b e r s p q = p ∙ ap f e ∙ sym q
+
+pub rounds64-decides : (a b : State) → stateOf a ≡ stateOf b → (r s : State) → stateOf r ≡ rounds 64 (stateOf a) → stateOf s ≡ rounds 64 (stateOf b)
+    → stateOf r ≡ stateOf s
+rounds64-decides a b e r s p q = state-decides (rounds 64) a b e r s p q
 
 -- the scoring daemon's calls
 pub kreyvium-encipher-decides : (m : ℕ) (key rec iv out : List ℕ) {r s : ℕ} {v w : List ℕ}

@@ -1,17 +1,17 @@
 -- 64 rounds at one-round: the words that enter are what the rounds would bring in one by one.
-use mathlib.Core.Path.{_≡_, refl, ap, sym, _∙_}
-use mathlib.Core.List.{List, [], _∷_, _++_}
-use Prim.Native.Nat.{ℕ, zero, suc, _+_, _*_, _-_, _/_, _%_, _^_, _≤_, _<_}
+use mathlib.Core.Path.{_≡_, refl, ap, sym, _∙_, subst}
+use mathlib.Core.List.{List}
+use Prim.Native.Nat.{ℕ, zero, suc, _+_, _*_, _-_, _%_, _≤_, _<_}
 use native.Mathlib.Omega.{arith}
-use lib.ListN.{getD}
+use lib.ListN.{length, getD}
 use Rattle.kreyvium.specs.declared.State.{State}
 use Rattle.kreyvium.specs.declared.Entry.{Entry}
 use Rattle.kreyvium.specs.Kreyvium.{Registers, k0, v0, outOf, t1, t2, t3, push, moved, roundOf, rounds, stream}
 use Rattle.kreyvium.specs.Words.{bit, tops, reg, stateOf}
-use Rattle.kreyvium.specs.Early.{early, Right}
+use Rattle.kreyvium.specs.Early.{later, early, Right}
 use Rattle.kreyvium.proofs.Bits.{odd-first}
-use Rattle.kreyvium.proofs.Streams.{registers-eq, rounds-last, stream-last}
-use Rattle.kreyvium.proofs.Windows.{leaves, later-now, got, got-none, got-more, got-first, got-all, got-tap}
+use Rattle.kreyvium.proofs.Streams.{registers-eq, rounds-last, rounds-none, risen, tops-stream}
+use Rattle.kreyvium.proofs.Windows.{leaves, length-reg, later-tap, got, got-none, got-more, got-first, got-all}
 
 -- ---- the four sums of a round, of what they add
 pub sum-out : {u u′ v v′ w w′ x x′ y y′ z z′ k k′ : ℕ} → u ≡ u′ → v ≡ v′ → w ≡ w′ → x ≡ x′ → y ≡ y′ → z ≡ z′ → k ≡ k′
@@ -144,22 +144,32 @@ module _ (s : State) (i : ℕ) (h : i < 64) where
   unfolding early
   early-iv = leaves i (s .v) h
 
--- ---- the coming round
-early-now : (s : State) → Same (early s 63) (stateOf s)
-unfolding early stateOf
-early-now s = record {
-  a = λ p l u. later-now p _ l;
-  b = λ p l u. later-now p _ l;
-  c = λ p l u. later-now p _ l;
-  k = λ p l u. later-now p _ l;
-  v = λ p l u. later-now p _ l;
-}
+-- ---- the next 64 rounds: what their taps read is in the registers now
+-- of one register
+taps : (one : Registers ℕ → List ℕ) (x : Registers ℕ → ℕ) → ((s : Registers ℕ) → one (roundOf s) ≡ push (x s) (one s))
+    → (s : Registers ℕ) (m : ℕ) → length (one s) ≡ m
+    → (n i : ℕ) → n + i ≡ 63 → (p : ℕ) → 63 ≤ p → p < m → getD (one (rounds n s)) p 0 ≡ getD (later i (one s)) p 0
+taps one x enters s m e n i q p l u =
+    let d : p ≡ n + (p - n) = omega arith in
+    ap (λ (j : ℕ). getD (one (rounds n s)) j 0) d
+    ∙ risen one x enters n (p - n) s (rw (← d, e) u)
+    ∙ sym (later-tap n i p (one s) q l)
 
-pub first-out : (s : State) (z : ℕ) → z < 2 ^ 64 → bit z 63 ≡ outOf (early s 63) → z / 2 ^ 63 ≡ outOf (stateOf s)
-unfolding bit
-first-out s z h e =
-    let q : z / 2 ^ 63 ≡ z / 2 ^ 63 % 2 = omega arith in
-    q ∙ e ∙ same-out _ _ (early-now s)
+module _ (s : State) where
+  rounds-same : (n i : ℕ) → n + i ≡ 63 → Same (rounds n (stateOf s)) (early s i)
+  unfolding early stateOf roundOf moved
+  rounds-same n i q = record {
+    a = taps (λ r. r .a) t3 (λ r. refl) (stateOf s) 93 (length-reg 93 (s .s .a) (omega arith)) n i q;
+    b = taps (λ r. r .b) t1 (λ r. refl) (stateOf s) 84 (length-reg 84 (s .s .b) (omega arith)) n i q;
+    c = taps (λ r. r .c) t2 (λ r. refl) (stateOf s) 111 (length-reg 111 (s .s .c) (omega arith)) n i q;
+    k = taps (λ r. r .k) (k0 0) (λ r. refl) (stateOf s) 128 (length-reg 128 (s .k) (omega arith)) n i q;
+    v = taps (λ r. r .v) (v0 0) (λ r. refl) (stateOf s) 128 (length-reg 128 (s .v) (omega arith)) n i q;
+  }
+
+  -- what comes out of them
+  pub block-out : (z : ℕ) → ((i : ℕ) → i < 64 → bit z i ≡ outOf (early s i)) → (n : ℕ) → n ≤ 64 → tops n z ≡ stream n (stateOf s)
+  block-out z e =
+      tops-stream z (stateOf s) (λ n h. e (63 - n) (omega arith) ∙ sym (same-out _ _ (rounds-same n (63 - n) (omega arith))))
 
 -- ---- n rounds, for n up to 64
 module _ (s : State) (e : Entry) where
@@ -183,22 +193,15 @@ module _ (s : State) (e : Entry) where
       (got-none _ _ _ (omega arith))
       (got-none _ _ _ (omega arith))
 
-  at-same : (i : ℕ) → i < 64 → Same (at (suc i)) (early s i)
-  unfolding at early
-  at-same i h = record {
-    a = λ p l u. got-tap i 93 (e .a) p (s .s .a) h (omega arith) l u;
-    b = λ p l u. got-tap i 84 (e .b) p (s .s .b) h (omega arith) l u;
-    c = λ p l u. got-tap i 111 (e .c) p (s .s .c) h (omega arith) l u;
-    k = λ p l u. got-tap i 128 (s .k .hi) p (s .k) h (omega arith) l u;
-    v = λ p l u. got-tap i 128 (s .v .hi) p (s .v) h (omega arith) l u;
-  }
-
   module _ (r : Right s e) where
-    at-next : (i : ℕ) → i < 64 → roundOf (at (suc i)) ≡ at i
+    at-next : (n i : ℕ) → n + suc i ≡ 64 → rounds n (stateOf s) ≡ at (suc i) → rounds (suc n) (stateOf s) ≡ at i
     unfolding roundOf moved at
-    at-next i h =
-        let same = at-same i h in
-        registers-eq
+    at-next n i q g =
+        let h : i < 64 = omega arith in
+        let same : Same (at (suc i)) (early s i) = subst (λ (x : Registers ℕ). Same x (early s i)) g (rounds-same s n i (omega arith)) in
+        rounds-last n (stateOf s)
+        ∙ ap roundOf g
+        ∙ registers-eq
         (got-more i 93 (e .a) _ (s .s .a) h (omega arith) (same-three _ _ same ∙ sym (r .a i h)))
         (got-more i 84 (e .b) _ (s .s .b) h (omega arith) (same-one _ _ same ∙ sym (r .b i h)))
         (got-more i 111 (e .c) _ (s .s .c) h (omega arith) (same-two _ _ same ∙ sym (r .c i h)))
@@ -206,10 +209,8 @@ module _ (s : State) (e : Entry) where
         (got-more i 128 (s .v .hi) _ (s .v) h (omega arith) (same .v 127 (omega arith) (omega arith) ∙ early-iv s i h))
 
     at-rounds : (n i : ℕ) → n + i ≡ 64 → rounds n (stateOf s) ≡ at i
-    unfolding rounds
-    at-rounds zero i q = let f : 64 ≡ i = omega arith in at-none ∙ ap at f
-    at-rounds (suc n) i q =
-        rounds-last n (stateOf s) ∙ ap roundOf (at-rounds n (suc i) (omega arith)) ∙ at-next i (omega arith)
+    at-rounds zero i q = let f : 64 ≡ i = omega arith in sym (rounds-none (stateOf s)) ∙ at-none ∙ ap at f
+    at-rounds (suc n) i q = at-next n i (omega arith) (at-rounds n (suc i) (omega arith))
 
     -- 64 rounds
     pub block-next : stateOf (record {
@@ -228,21 +229,6 @@ module _ (s : State) (e : Entry) where
         (got-all 128 (s .k .hi) (s .k) (omega arith))
         (got-all 128 (s .v .hi) (s .v) (omega arith)))
 
-    out-at : (n : ℕ) → n < 64 → bit (e .z) (63 - n) ≡ outOf (rounds n (stateOf s))
-    out-at n h =
-        let i = 63 - n in
-        let l : i < 64 = omega arith in
-        r .z i l ∙ sym (same-out _ _ (at-same i l)) ∙ ap outOf (sym (at-rounds n (suc i) (omega arith)))
-
-    -- what comes out of them
-    pub block-out : (n : ℕ) → n ≤ 64 → tops n (e .z) ≡ stream n (stateOf s)
-    unfolding tops stream
-    block-out zero h = refl
-    block-out (suc n) h =
-        ap (λ (b : ℕ). tops n (e .z) ++ (b ∷ [])) (out-at n (omega arith))
-        ∙ ap (λ (l : List ℕ). l ++ (outOf (rounds n (stateOf s)) ∷ [])) (block-out n (omega arith))
-        ∙ sym (stream-last n (stateOf s))
-
     -- one round: of each word that enters, the bit at place 63
     pub one-round : _≡_ {A = Registers ℕ} (record {
       a = push (bit (e .a) 63) (reg 93 (s .s .a));
@@ -251,7 +237,7 @@ module _ (s : State) (e : Entry) where
       k = push (bit (s .k .hi) 63) (reg 128 (s .k));
       v = push (bit (s .v .hi) 63) (reg 128 (s .v));
     }) (roundOf (stateOf s))
-    unfolding at
+    unfolding at rounds
     one-round =
         registers-eq
         (got-first 93 (e .a) (s .s .a) (omega arith))
@@ -259,5 +245,4 @@ module _ (s : State) (e : Entry) where
         (got-first 111 (e .c) (s .s .c) (omega arith))
         (got-first 128 (s .k .hi) (s .k) (omega arith))
         (got-first 128 (s .v .hi) (s .v) (omega arith))
-        ∙ sym (at-next 63 (omega arith))
-        ∙ ap roundOf (sym at-none)
+        ∙ sym (at-rounds 1 63 refl)

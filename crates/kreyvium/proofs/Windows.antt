@@ -124,11 +124,12 @@ later-at : (i o : ℕ) (r : List ℕ) → getD (later i r) (63 + o) 0 ≡ getD r
 unfolding later
 later-at i o r = getD-append-add (replicate 63 0) (drop i r) o 0 ∙ getD-drop i r o 0
 
--- the coming round is the one of place 63
-pub later-now : (p : ℕ) (r : List ℕ) → 63 ≤ p → getD (later 63 r) p 0 ≡ getD r p 0
-later-now p r h =
+-- what stands at place p in the round of place i, which n rounds come before
+pub later-tap : (n i p : ℕ) (r : List ℕ) → n + i ≡ 63 → 63 ≤ p → getD (later i r) p 0 ≡ getD r (p - n) 0
+later-tap n i p r q h =
     let e : p ≡ 63 + (p - 63) = omega arith in
-    ap (λ (j : ℕ). getD (later 63 r) j 0) e ∙ later-at 63 (p - 63) r ∙ ap (λ (j : ℕ). getD r j 0) (sym e)
+    let f : i + (p - 63) ≡ p - n = omega arith in
+    ap (λ (j : ℕ). getD (later i r) j 0) e ∙ later-at i (p - 63) r ∙ ap (λ (j : ℕ). getD r j 0) f
 
 -- what a window from place o on shows, to the round of place i: what will stand at place 63 + o
 pub shown : (o p n i : ℕ) (w : Words) → p ≡ 63 + o → o + 64 ≤ n → n ≤ 128 → i < 64
@@ -188,26 +189,6 @@ got-all n x w h =
     ap (λ (l : List ℕ). take n (bits 64 x ++ l)) (reg-all w)
     ∙ ap (take n) (sym (append-assoc (bits 64 x) (bits 64 (w .lo)) (bits 64 (w .hi))))
     ∙ take-append-le n (bits 64 x ++ bits 64 (w .lo)) (bits 64 (w .hi)) (simp (length-append, length-bits) h)
-
--- what the taps read: they stand above place 63
-pub got-tap : (i n x p : ℕ) (w : Words) → i < 64 → n ≤ 128 → 63 ≤ p → p < n → getD (got (suc i) n x w) p 0 ≡ getD (later i (reg n w)) p 0
-unfolding got
-got-tap i n x p w h g a b =
-    getD-take n (drop (suc i) (bits 64 x) ++ reg 128 w) p 0 b
-    ∙ ap (λ (j : ℕ). getD (drop (suc i) (bits 64 x) ++ reg 128 w) j 0) e
-    ∙ getD-append-add (drop (suc i) (bits 64 x)) (reg 128 w) (i + o) 0
-    ∙ sym (reg-at n (i + o) w (omega arith) g)
-    ∙ sym (later-at i o (reg n w))
-    ∙ ap (λ (j : ℕ). getD (later i (reg n w)) j 0) f
-  where
-    o : ℕ
-    o = p - 63
-
-    e : p ≡ length (drop (suc i) (bits 64 x)) + (i + o)
-    e = rw (length-drop, length-bits) (omega arith)
-
-    f : 63 + o ≡ p
-    f = omega arith
 
 -- two windows make the register that one bit has entered
 pub got-one : (n x a b : ℕ) (w : Words) → n ≤ 128

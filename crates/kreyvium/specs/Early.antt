@@ -8,7 +8,7 @@ use Prim.Native.Nat.{ℕ, _<_}
 use lib.ListN.{drop, replicate}
 use Rattle.kreyvium.specs.declared.State.{State}
 use Rattle.kreyvium.specs.declared.Entry.{Entry}
-use Rattle.kreyvium.specs.Kreyvium.{Registers, outOf, t1, t2, t3}
+use Rattle.kreyvium.specs.Kreyvium.{Registers, t1, t2, t3}
 use Rattle.kreyvium.specs.Words.{bit, reg}
 
 -- a register as the round of place i finds it: 63 - i places further up. What enters until then stands below place 63,
@@ -25,9 +25,8 @@ early s i = record {
   v = later i (reg 128 (s .v));
 }
 
--- the words that enter in the next 64 rounds, and the one that comes out
+-- the words that enter in the next 64 rounds
 pub record Right (s : State) (e : Entry) : Type 0 where
   pub a : (i : ℕ) → i < 64 → bit (e .a) i ≡ t3 (early s i)
   pub b : (i : ℕ) → i < 64 → bit (e .b) i ≡ t1 (early s i)
   pub c : (i : ℕ) → i < 64 → bit (e .c) i ≡ t2 (early s i)
-  pub z : (i : ℕ) → i < 64 → bit (e .z) i ≡ outOf (early s i)

@@ -14,37 +14,31 @@ ghost use Rattle.kreyvium.specs.Early.{early, Right};
 // A register of up to 128 places: the first 64 in lo and the others in hi, each from the low end up.
 // A shorter register leaves bits above its length. They are never cleared: every tap stands below
 // that length and bits only move up, so none of them is ever read.
-pub struct Words {
-    pub lo: u64,
-    pub hi: u64,
+struct Words {
+    lo: u64,
+    hi: u64,
 }
 
 // s1..s93, s94..s177 and s178..s288.
-pub struct Shift {
-    pub a: Words,
-    pub b: Words,
-    pub c: Words,
+struct Shift {
+    a: Words,
+    b: Words,
+    c: Words,
 }
 
-// The three registers with K* and IV*, whose first place is bit 127 and whose last is bit 0.
+// The three registers with K* and IV*, whose first place is bit 127 and whose last is bit 0. The fields are private: a
+// caller learns of a state what the promises say of the registers it stands for, and nothing of its words.
 pub struct State {
-    pub s: Shift,
-    pub k: Words,
-    pub v: Words,
+    s: Shift,
+    k: Words,
+    v: Words,
 }
 
-// 64 output bits, the first at place 63 and the last at place 0, and the state after them.
-pub struct Block {
-    pub z: u64,
-    pub next: State,
-}
-
-// What 64 rounds bring into a, b and c, and what they give out: the first round's bit at place 63.
+// What 64 rounds bring into a, b and c: the first round's bit at place 63.
 struct Entry {
     a: u64,
     b: u64,
     c: u64,
-    z: u64,
 }
 
 // c is loaded with IV84..IV127 at places 0 to 43, then 66 ones, then a zero at place 110, s288.
@@ -96,6 +90,17 @@ impl State {
             hi: ONES_BELOW_46,
         };
         let s = Shift { a: k, b: v, c: c };
+        State { s: s, k: k, v: v }
+    }
+
+    // The same three registers, with K* and IV* from another key and IV. The rules load both from the same; a library
+    // whose vectors are public does not.
+    pub fn with_stars(self, k0: u64, k1: u64, v0: u64, v1: u64) -> State
+        ensures { λ r. ⌜ stateOf r ≡ record { a = (stateOf self) .a; b = (stateOf self) .b; c = (stateOf self) .c; k = bits 64 k0 ++ bits 64 k1; v = bits 64 v0 ++ bits 64 v1 } ⌝ }
+    {
+        let s = self.s;
+        let k = Words { lo: k0, hi: k1 };
+        let v = Words { lo: v0, hi: v1 };
         State { s: s, k: k, v: v }
     }
 
@@ -158,12 +163,21 @@ impl State {
         c.windows(n - 241, m - 241)
     }
 
-    // t1 + t2 + t3 in each of the next 64 rounds. K*0 will be K*0..K*63 of now, which is k.hi.
-    fn word_out(self) -> u64
-        ensures { λ r. ⌜ ((i : ℕ) → i < 64 → bit r i ≡ outOf (early self i)) ⌝ }
+    // The output bits of the next 64 rounds, t1 + t2 + t3 in each: the first at place 63 and the last at place 0. K*0 will
+    // be K*0..K*63 of now, which is k.hi.
+    pub fn outputs64(self) -> u64
+        ensures { λ r. ⌜ ((n : ℕ) → n ≤ 64 → tops n r ≡ stream n (stateOf self)) ⌝ }
     {
         let k = self.k;
         self.taps_a(66, 93) ^ self.taps_b(162, 177) ^ self.taps_c(243, 288) ^ k.hi
+    }
+
+    // The output bit of the coming round.
+    pub fn output(self) -> u8
+        ensures { λ r. ⌜ r ≡ outOf (stateOf self) ⌝ }
+    {
+        let z = self.outputs64();
+        (z >> 63) as u8
     }
 
     // t1 with what it gains; IV*0 is v.hi likewise.
@@ -195,13 +209,7 @@ impl State {
         let a = self.word_three();
         let b = self.word_one();
         let c = self.word_two();
-        let z = self.word_out();
-        Entry {
-            a: a,
-            b: b,
-            c: c,
-            z: z,
-        }
+        Entry { a: a, b: b, c: c }
     }
 
     // One round: of the 64 bits that would enter each register, the first does.
@@ -232,19 +240,10 @@ impl State {
         }
     }
 
-    // The output bit of the coming round.
-    pub fn output(self) -> u8
-        ensures { λ r. ⌜ r ≡ outOf (stateOf self) ⌝ }
-    {
-        let z = self.word_out();
-        (z >> 63) as u8
-    }
-
     // 64 rounds at once: a whole word enters each register, and the word that stood first moves up.
     // K* and IV* turn by half their length, so their words change places.
-    pub fn rounds64(self) -> Block
-        ensures { λ r. ⌜ stateOf (r .next) ≡ rounds 64 (stateOf self) ⌝ }
-        ensures { λ r. ⌜ ((n : ℕ) → n ≤ 64 → tops n (r .z) ≡ stream n (stateOf self)) ⌝ }
+    pub fn rounds64(self) -> State
+        ensures { λ r. ⌜ stateOf r ≡ rounds 64 (stateOf self) ⌝ }
     {
         let e = self.entry();
         let s = self.s;
@@ -263,12 +262,11 @@ impl State {
             b: b64,
             c: c64,
         };
-        let next = State {
+        State {
             s: s64,
             k: k64,
             v: v64,
-        };
-        Block { z: e.z, next: next }
+        }
     }
 
     // The 1,152 rounds before the first output bit: 18 times 64, two of them a turn, after which each word is where
@@ -279,10 +277,8 @@ impl State {
         let mut s = self;
         let mut i: usize = 0;
         while i < 9 {
-            let b = s.rounds64();
-            let t = b.next;
-            let d = t.rounds64();
-            s = d.next;
+            let t = s.rounds64();
+            s = t.rounds64();
             i += 1;
         }
         s
@@ -295,6 +291,5 @@ pub fn stream64(k0: u64, k1: u64, v0: u64, v1: u64) -> u64
 {
     let s = State::load(k0, k1, v0, v1);
     let t = s.warmed();
-    let b = t.rounds64();
-    b.z
+    t.outputs64()
 }

@@ -7,11 +7,9 @@ use native.Mathlib.Numerals.{add-one}
 use native.Mathlib.Omega.{arith}
 use lib.Pow.{pow-mono}
 use lib.ListN.{take, drop, replicate}
-use Rattle.kreyvium.specs.declared.State.{State}
 use Rattle.kreyvium.specs.Kreyvium.{Registers, loaded}
-use Rattle.kreyvium.specs.Words.{bits, stateOf}
+use Rattle.kreyvium.specs.Words.{bits}
 use Rattle.kreyvium.proofs.Bits.{bits-cons}
-use Rattle.kreyvium.proofs.Windows.{reg-all}
 use Rattle.kreyvium.proofs.Streams.{registers-eq}
 use Rattle.vectors.specs.Reversed.{loadedInReverse}
 
@@ -61,16 +59,13 @@ pub both-turned : (x y x′ y′ : ℕ) → bits 64 x′ ≡ reverse (bits 64 x)
 both-turned x y x′ y′ e f = ap₂ _++_ f e ∙ sym (reverse-append (bits 64 x) (bits 64 y))
 
 -- The registers loaded from a key and an IV in reverse, with K* and IV* from those as they are.
-pub load-reversed : (t : State) (k0 k1 v0 v1 : ℕ) (key iv : List ℕ)
-    → key ≡ reverse (bits 64 k0 ++ bits 64 k1) → iv ≡ reverse (bits 64 v0 ++ bits 64 v1)
-    → stateOf t ≡ loaded 0 1 key iv
-    → stateOf (record { s = t .s; k = record { lo = k0; hi = k1 }; v = record { lo = v0; hi = v1 } })
-    ≡ loadedInReverse (bits 64 k0 ++ bits 64 k1) (bits 64 v0 ++ bits 64 v1)
-unfolding stateOf loaded loadedInReverse
-load-reversed t k0 k1 v0 v1 key iv e f g =
+pub load-reversed : (s : Registers ℕ) (turnedKey turnedIv key iv : List ℕ) → turnedKey ≡ reverse key → turnedIv ≡ reverse iv → s ≡ loaded 0 1 turnedKey turnedIv
+    → _≡_ {A = Registers ℕ} (record { a = s .a; b = s .b; c = s .c; k = key; v = iv }) (loadedInReverse key iv)
+unfolding loaded loadedInReverse
+load-reversed s turnedKey turnedIv key iv e f g =
     registers-eq
     (ap (λ (r : Registers ℕ). r .a) g ∙ ap (take 93) e)
     (ap (λ (r : Registers ℕ). r .b) g ∙ ap (take 84) f)
     (ap (λ (r : Registers ℕ). r .c) g ∙ ap (λ (l : List ℕ). drop 84 l ++ (replicate 66 1 ++ (0 ∷ []))) f)
-    (reg-all _)
-    (reg-all _)
+    refl
+    refl

@@ -12,7 +12,7 @@ fn say_row(row: &[u32]) {
     say_number(answer::word_at(row, 2) as usize);
 }
 
-pub fn print() {
+pub(crate) fn print() {
     let mut draws = [0u32; 530];
     draws[0] = 2;
     draws[1] = 2;

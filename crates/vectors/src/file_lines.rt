@@ -18,7 +18,7 @@ fn print_read(bytes: &[u8]) {
     say(b"\n");
 }
 
-pub fn print() {
+pub(crate) fn print() {
     let mut bytes = [0u8; 20];
     let r = file::write_file(&PASS_THROUGH, &mut bytes);
     let Answer::Done = r else {

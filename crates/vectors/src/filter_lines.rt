@@ -58,7 +58,7 @@ fn threshold_line(zeros: usize) {
 }
 
 // [1,1] is one monomial of degree 1 and one of degree 2; so is the triangle of degree 2.
-pub fn print() {
+pub(crate) fn print() {
     triangle();
     threshold_line(113);
     threshold_line(112);

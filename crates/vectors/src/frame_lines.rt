@@ -177,7 +177,7 @@ fn print_refusal(file: &[u8]) {
     say(b"\n");
 }
 
-pub fn print() {
+pub(crate) fn print() {
     print_public();
     let mut first = [0u8; 26];
     let largest = Port::new(65535, 1, 1, 4194303, 16777215);

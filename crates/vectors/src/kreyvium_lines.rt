@@ -2,8 +2,8 @@
 use crate::text::say;
 use crate::text::say_word;
 
-// One line. The word z has the first keystream bit at its high end, so it is turned to be printed.
-fn line(source: &[u8], k0: u64, k1: u64, v0: u64, v1: u64, z: u64) {
+// One vector. The word z has the first keystream bit at its high end, so it is turned to be printed.
+fn vector(source: &[u8], k0: u64, k1: u64, v0: u64, v1: u64, z: u64) {
     say(source);
     say(b", key ");
     say_word(k0);
@@ -13,15 +13,20 @@ fn line(source: &[u8], k0: u64, k1: u64, v0: u64, v1: u64, z: u64) {
     say_word(v1);
     say(b": ");
     say_word(crate::reversed::turned(z));
-    say(b"\n");
 }
 
 fn plain(source: &[u8], k0: u64, k1: u64, v0: u64, v1: u64) {
-    line(source, k0, k1, v0, v1, kreyvium::stream64(k0, k1, v0, v1));
+    let z = kreyvium::stream64(k0, k1, v0, v1);
+    vector(source, k0, k1, v0, v1, z);
+    if crate::round_by_round::stream64(k0, k1, v0, v1) == z {
+        say(b", round by round the same\n");
+    } else {
+        say(b", round by round different\n");
+    }
 }
 
 fn reversed(source: &[u8], k0: u64, k1: u64, v0: u64, v1: u64) {
-    line(
+    vector(
         source,
         k0,
         k1,
@@ -29,9 +34,10 @@ fn reversed(source: &[u8], k0: u64, k1: u64, v0: u64, v1: u64) {
         v1,
         crate::reversed::stream64(k0, k1, v0, v1),
     );
+    say(b"\n");
 }
 
-pub fn print() {
+pub(crate) fn print() {
     plain(b"Kreyvium, public vector, loaded as in 01", 0, 0, 0, 0);
     let other = b"Kreyvium, public vector of a library that loads in reverse, loaded so";
     reversed(other, 0, 0, 1, 0);

@@ -12,6 +12,7 @@ mod frame_lines;
 mod kreyvium_lines;
 mod netlist_lines;
 mod reversed;
+mod round_by_round;
 mod text;
 
 fn main() {

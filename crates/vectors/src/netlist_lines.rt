@@ -186,7 +186,7 @@ fn print_kreyvium() {
     say(b"\n");
 }
 
-pub fn print() {
+pub(crate) fn print() {
     print_edges();
     print_two_of_three();
     print_kreyvium();

@@ -5,7 +5,7 @@ ghost use Rattle.vectors.specs.Text.{digitOf};
 
 const STANDARD_OUTPUT: i32 = 1;
 
-pub fn say(text: &[u8]) {
+pub(crate) fn say(text: &[u8]) {
     io::write_all(STANDARD_OUTPUT, text);
 }
 
@@ -22,11 +22,11 @@ fn digit(n: u8) -> u8
     b'?'
 }
 
-pub fn say_number(n: usize) {
+pub(crate) fn say_number(n: usize) {
     io::print_decimal(STANDARD_OUTPUT, n as u64);
 }
 
-pub fn say_digit(n: u8) {
+pub(crate) fn say_digit(n: u8) {
     let one = [digit(n)];
     say(&one);
 }
@@ -38,7 +38,7 @@ fn say_byte(n: u8) {
 }
 
 // The first n bits of a list, with commas.
-pub fn say_bits(bits: &[u8], n: usize) {
+pub(crate) fn say_bits(bits: &[u8], n: usize) {
     if n == 0 {
         say(b"nothing");
         return;
@@ -54,7 +54,7 @@ pub fn say_bits(bits: &[u8], n: usize) {
 }
 
 // All bytes of a list in hexadecimal, and all words in decimal, each after a space.
-pub fn say_bytes(bytes: &[u8]) {
+pub(crate) fn say_bytes(bytes: &[u8]) {
     let mut i: usize = 0;
     while i < bytes.len() {
         say(b" ");
@@ -63,7 +63,7 @@ pub fn say_bytes(bytes: &[u8]) {
     }
 }
 
-pub fn say_words(words: &[u32]) {
+pub(crate) fn say_words(words: &[u32]) {
     let mut i: usize = 0;
     while i < words.len() {
         say(b" ");
@@ -73,7 +73,7 @@ pub fn say_words(words: &[u32]) {
 }
 
 // The eight bytes of a word, the low one first, in hexadecimal.
-pub fn say_word(word: u64) {
+pub(crate) fn say_word(word: u64) {
     let mut rest = word;
     let mut i: usize = 0;
     while i < 8 {

@@ -1,4 +1,4 @@
-use Rattle.kreyvium.proofs.Blocks.{block-next, block-out}
+use Rattle.kreyvium.proofs.Blocks.{block-next}
 use borrow.Author.Needs.{needs}
 use Rattle.kreyvium.proofs.State.rounds64.Statement.{statement}
 use Rattle.kreyvium.proofs.State.rounds64.Tie as tie
@@ -7,9 +7,7 @@ entry-requires : tie.Need-entry-requires
 entry-requires c κs = search needs
 
 returns : tie.Need-returns
-returns c =
-    let r = c .before .before .before .before .before .before .entry .ensures in
-    (block-next _ _ r, block-out _ _ r)
+returns c = block-next _ _ (c .before .before .before .before .before .before .entry .ensures)
 
 pub rounds64-spec : {M : Type 1} → statement M
 rounds64-spec = tie.close (tie.spec entry-requires returns)

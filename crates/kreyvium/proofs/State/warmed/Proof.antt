@@ -1,4 +1,4 @@
-use Rattle.kreyvium.proofs.Streams.{blocks-none, blocks-more}
+use Rattle.kreyvium.proofs.Streams.{rounds-none, blocks-more}
 use Rattle.kreyvium.specs.Kreyvium.{rounds}
 use Rattle.kreyvium.specs.Words.{stateOf}
 use native.Mathlib.Omega.{arith}
@@ -15,7 +15,7 @@ abbrev μ-loop : tie.MeasureT-loop
 μ-loop s₀ i₀ s i = 9 - i
 
 loop-holds : tie.Need-loop-holds Inv-loop μ-loop
-loop-holds c = (search needs, blocks-none _)
+loop-holds c = (search needs, rounds-none _)
 
 rounds64-requires : tie.Need-rounds64-requires Inv-loop μ-loop
 rounds64-requires c κs = search needs
@@ -31,9 +31,8 @@ loop-less c = search needs
 
 loop-again : tie.Need-loop-again Inv-loop μ-loop
 loop-again c =
-    let second = c .before in
-    let first = second .before .before in
-    (search needs, second .rounds642 .ensures .0 ∙ ap (rounds 64) (first .rounds64 .ensures .0 ∙ ap (rounds 64) (first .before .before .loop .inv .1)) ∙ blocks-more _ _)
+    let first = c .before in
+    (search needs, c .rounds642 .ensures ∙ ap (rounds 64) (first .rounds64 .ensures ∙ ap (rounds 64) (first .before .before .loop .inv .1)) ∙ blocks-more _ _)
 
 returns : tie.Need-returns Inv-loop μ-loop
 returns c =

@@ -1,3 +1,4 @@
+use mathlib.Core.Path.{_∙_}
 use Rattle.vectors.proofs.Turning.{both-turned, load-reversed}
 use borrow.Author.Needs.{needs}
 use Rattle.vectors.proofs.reversed.load.Statement.{statement}
@@ -18,15 +19,17 @@ turned-requires-4 c κs = search needs
 load-requires : tie.Need-load-requires
 load-requires c κs = search needs
 
+with-stars-requires : tie.Need-with-stars-requires
+with-stars-requires c κs = search needs
+
 returns : tie.Need-returns
 returns c =
     let v0 = c .before .before in
     let v1 = v0 .before in
     let k0 = v1 .before in
     let k1 = k0 .before in
-    load-reversed
-    _
-    _
+    c .with-stars .ensures
+    ∙ load-reversed
     _
     _
     _
@@ -45,4 +48,5 @@ load-spec =
     turned-requires-3
     turned-requires-4
     load-requires
+    with-stars-requires
     returns)
