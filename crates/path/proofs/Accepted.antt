@@ -22,7 +22,8 @@ use Rattle.emit.specs.Emit.{wiringAnswer, decipherAnswer}
 use Rattle.emit.specs.Lent.{Lent}
 use Rattle.emit.proofs.Accepted.{wiring-lent}
 use Rattle.path.specs.declared.Rooms.{Rooms}
-use Rattle.path.specs.Path.{decipherWords, roomsAnswer, resultsAnswer, scoreAnswer}
+use Rattle.path.specs.Path.{decipherWords, roomsAnswer, scoreAnswer}
+use Rattle.path.specs.Steps.{resultsAnswer}
 use Rattle.path.proofs.Judging.{room-is, encipher-parts, wiring-accepted}
 use Rattle.path.proofs.Emission.{emitted-sound, emitted-outputs}
 
@@ -90,7 +91,7 @@ module _ (inst m : ℕ) (key rec idx wh score : List ℕ) (lent : Rooms) (done :
   enciphers = first-done _ _ done
 
   pub fitting : Fitting inst m (decipherWords inst m idx wh) score lent
-  unfolding scoreAnswer
+  unfolding scoreAnswer resultsAnswer
   fitting = results-done inst m _ score lent (then-done _ _ done)
 
   wired : wiringAnswer inst m idx wh ≡ Done

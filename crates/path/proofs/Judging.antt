@@ -14,14 +14,14 @@ use Rattle.answer.specs.Bits.{bitsAnswer}
 use Rattle.answer.proofs.Rows.{first-done, then-done, both, pass, stop, refuse-done, refuse-not}
 use Rattle.netlist.specs.Words.{inputsOf, gatesOf, outputsOf}
 use Rattle.netlist.specs.Check.{gateLimit, netAnswer}
-use Rattle.instance.specs.Table.{keyBits, rowBits, whiteBits}
+use Rattle.instance.specs.Table.{keyBits, rowBits}
 use Rattle.instance.specs.Judging.{lengthAnswer, rowsAnswer, whiteAnswer, roomAnswer}
 use Rattle.cipher.specs.Judging.{wiringLengths, encipherAnswer}
 use Rattle.cipher.specs.Judging as judging
 use Rattle.emit.specs.Emit.{wiringAnswer}
 use Rattle.path.specs.declared.Rooms.{Rooms}
-use Rattle.path.specs.Path.{decipherWords, roomsAnswer, resultsAnswer, scoreAnswer}
-use Rattle.path.specs.Steps.{renamedTo, sizesAnswer}
+use Rattle.path.specs.Path.{decipherWords, roomsAnswer, scoreAnswer}
+use Rattle.path.specs.Steps.{renamedTo, sizesAnswer, resultsAnswer}
 use Rattle.path.proofs.Lists.{wiring-renamed, renamed-done}
 
 -- rows of answers, however they are grouped
@@ -103,7 +103,7 @@ module _ (inst m : ℕ) (key rec idx wh : List ℕ) where
     refused-wiring d b e h = early (pass d (pass b e)) h
 
     pub judged : {r : Answer} → sizes ≡ Done → bits ≡ Done → wiring ≡ Done → r ≡ resultsAnswer inst m (decipherWords inst m idx wh) score lent → r ≡ due
-    unfolding scoreAnswer
+    unfolding scoreAnswer resultsAnswer
     judged d b w e = pass (encipher-parts ∙ both d (both b w)) e
 
 -- 9, 8, 10 and 11 from the netlists' counts

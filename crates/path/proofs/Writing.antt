@@ -4,13 +4,13 @@ use mathlib.Core.Path.{_≡_, refl, sym, ap, subst, _∙_}
 use mathlib.Core.List.{List, [], _++_}
 use native.Mathlib.Omega.{arith}
 use lib.ListN.{length, take, length-append}
-use lib.Seq.{sets, length-take-le}
+use lib.Seq.{sets}
 use Rattle.answer.specs.declared.Answer.{Answer}
 use Rattle.answer.specs.declared.Answer.the-variants.{Done, Refused}
 use Rattle.answer.specs.Fronts.{over}
 use Rattle.answer.proofs.Over.{over-none, over-sets, take-over, over-at, length-over, kept, made}
 use Rattle.netlist.specs.Net.{Net, values, eval}
-use Rattle.netlist.specs.Words.{inputsOf, gatesOf, outputsOf, gatePlace, gatesWords, words, netOf}
+use Rattle.netlist.specs.Words.{gatesWords, words, netOf}
 use Rattle.netlist.specs.Glue.{glue}
 use Rattle.netlist.proofs.Words.{gatesWords-length}
 use Rattle.instance.specs.Table.{keyBits}
@@ -19,7 +19,7 @@ use Rattle.wiring.specs.Rows.{Inputs}
 use Rattle.evaluate.specs.Evaluate.{Evaluated}
 use Rattle.evaluate.specs.Ready.{Ready}
 use Rattle.evaluate.proofs.Accepted.{ready-done}
-use Rattle.glue.specs.Glue.{gluedWords, GluedAs}
+use Rattle.glue.specs.Glue.{gluedWords}
 use Rattle.glue.specs.Parts.{Fit}
 use Rattle.emit.specs.Emit.{decipherNet, decipherAnswer, Emitted}
 use Rattle.emit.specs.Lent.{Lent}

@@ -40,18 +40,15 @@ roomsAnswer inst m a b lent =
     ▹ roomAnswer 10 (lent .wires) (keyBits inst + m + (gatesOf a + gatesOf b))
     ▹ roomAnswer 11 (lent .scores) (outputsOf b)
 
--- 9 of the scoring netlist, which says how much room is needed; 8; 10 and 11
-unfoldable pub resultsAnswer : ℕ → ℕ → List ℕ → List ℕ → Rooms → Answer
-resultsAnswer inst m a b lent =
-    netAnswer 5 b
-    ▹ roomsAnswer inst m a b lent
-    ▹ refuse 10 0 0 (not (eqb m (inputsOf b)))
-    ▹ refuse 11 0 0 (ltb gateLimit (gatesOf a + gatesOf b))
-
--- before that 1 to 7: what enciphering answers where there is room for m bits
+-- 1 to 7: what enciphering answers where there is room for m bits; 9 of the scoring netlist, which says how much room is
+-- needed; 8; 10 and 11
 unfoldable pub scoreAnswer : ℕ → ℕ → List ℕ → List ℕ → List ℕ → List ℕ → List ℕ → Rooms → Answer
 scoreAnswer inst m key rec idx wh score lent =
-    encipherAnswer inst m key rec idx wh m ▹ resultsAnswer inst m (decipherWords inst m idx wh) score lent
+    encipherAnswer inst m key rec idx wh m
+    ▹ netAnswer 5 score
+    ▹ roomsAnswer inst m (decipherWords inst m idx wh) score lent
+    ▹ refuse 10 0 0 (not (eqb m (inputsOf score)))
+    ▹ refuse 11 0 0 (ltb gateLimit (gatesOf (decipherWords inst m idx wh) + gatesOf score))
 
 -- how many places the results have
 abbrev pub roomsOf : List ℕ → List ℕ → List ℕ → List ℕ → List ℕ → List ℕ → Rooms
@@ -64,8 +61,8 @@ roomsOf enc net glued inp vals out = record {
   scores = length out;
 }
 
--- What a call answers and leaves: in each result what is made on the way, in the last the scoring netlist's outputs on the
--- plain record.
+-- What a call answers, and what it leaves in each result: what is made on the way, and as scores the scoring netlist's
+-- outputs on the plain record; on a refusal what was lent.
 pub record Scored (inst m : ℕ) (key rec idx wh score enc net glued inp vals out : List ℕ) (r : Answer) (enc′ net′ glued′ inp′ vals′ out′ : List ℕ) : Type 0 where
   pub answered : r ≡ scoreAnswer inst m key rec idx wh score (roomsOf enc net glued inp vals out)
   pub enciphers : enc′ ≡ left r (encipherOf inst m key rec idx wh) enc

@@ -1,17 +1,20 @@
 -- What the judges and the writers of the path speak of.
 use Prim.Native.Nat.{ℕ, _+_}
+use mathlib.Core.Bool.{not}
 use mathlib.Core.List.{List}
 use lib.ListN.{take}
-use lib.Dec.{eqb}
+use lib.Dec.{ltb, eqb}
 use Rattle.answer.specs.declared.Answer.{Answer}
 use Rattle.answer.specs.declared.Answer.the-variants.{Done, Refused}
-use Rattle.answer.specs.Answers.{_▹_}
-use Rattle.answer.specs.Bits.{bitsAnswer}
+use Rattle.answer.specs.Answers.{_▹_, refuse}
 use Rattle.answer.specs.Choose.{choose}
-use Rattle.netlist.specs.Words.{gatesOf, outputsOf, gatePlace}
+use Rattle.netlist.specs.Words.{inputsOf, gatesOf, outputsOf, gatePlace}
+use Rattle.netlist.specs.Check.{gateLimit, netAnswer}
 use Rattle.instance.specs.Table.{keyBits}
 use Rattle.instance.specs.Judging.{numbersAnswer, lengthAnswer}
 use Rattle.cipher.specs.Judging.{wiringLengths}
+use Rattle.path.specs.declared.Rooms.{Rooms}
+use Rattle.path.specs.Path.{roomsAnswer}
 
 -- an answer whose list from is counted as to
 unfoldable pub renamedTo : ℕ → ℕ → Answer → Answer
@@ -22,6 +25,14 @@ renamedTo from to (Refused number list place) = Refused number (choose (eqb list
 unfoldable pub sizesAnswer : ℕ → ℕ → ℕ → ℕ → ℕ → ℕ → Answer
 sizesAnswer inst m k r i w =
     numbersAnswer inst m ▹ lengthAnswer 1 k (keyBits inst) ▹ lengthAnswer 2 r m ▹ wiringLengths 3 inst m i w
+
+-- 9, 8, 10 and 11, where a is the deciphering netlist and b the scoring netlist
+unfoldable pub resultsAnswer : ℕ → ℕ → List ℕ → List ℕ → Rooms → Answer
+resultsAnswer inst m a b lent =
+    netAnswer 5 b
+    ▹ roomsAnswer inst m a b lent
+    ▹ refuse 10 0 0 (not (eqb m (inputsOf b)))
+    ▹ refuse 11 0 0 (ltb gateLimit (gatesOf a + gatesOf b))
 
 -- how many words the netlist at the front of a list has, and these words
 abbrev pub sizeOf : List ℕ → ℕ

@@ -16,8 +16,8 @@ ghost use Rattle.answer.specs.Bits.{bitsAnswer};
 ghost use Rattle.netlist.specs.Words.{gatesOf};
 ghost use Rattle.netlist.specs.Check.{gateLimit};
 ghost use Rattle.instance.specs.Judging.{roomAnswer};
-ghost use Rattle.path.specs.Path.{resultsAnswer, scoreAnswer};
-ghost use Rattle.path.specs.Steps.{renamedTo, sizesAnswer};
+ghost use Rattle.path.specs.Path.{scoreAnswer};
+ghost use Rattle.path.specs.Steps.{renamedTo, sizesAnswer, resultsAnswer};
 
 // The first of two answers that refuses.
 fn first(a: Answer, b: Answer) -> Answer

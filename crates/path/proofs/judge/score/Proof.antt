@@ -1,9 +1,7 @@
-use Prim.Native.Nat.{_≤_}
 use mathlib.Core.Path.{_≡_, sym, ap, _∙_}
 use native.Mathlib.Omega.{arith}
 use denote.Ref.{now}
 use lib.ListN.{length}
-use Rattle.answer.specs.declared.Answer.{Answer}
 use Rattle.answer.specs.declared.Answer.the-variants.{Done}
 use Rattle.emit.specs.Emit.{wiringAnswer}
 use Rattle.emit.proofs.Accepted.{wiring-lent, size-answer, size-counts}
