@@ -19,7 +19,7 @@ ghost use Rattle.instance.specs.Judging.{roomAnswer};
 ghost use Rattle.path.specs.Path.{scoreAnswer};
 ghost use Rattle.path.specs.Steps.{renamedTo, sizesAnswer, resultsAnswer};
 
-// The first of two answers that refuses.
+// The first answer, or if that is done the second.
 fn first(a: Answer, b: Answer) -> Answer
     ensures { λ r. ⌜ r ≡ a ▹ b ⌝ }
 {
@@ -90,7 +90,7 @@ fn room(lent: Rooms, needed: Rooms) -> Answer
     first(e, first(d, first(g, first(i, first(w, s)))))
 }
 
-// 10 and 11: the scoring netlist has so many inputs, it and the deciphering netlist so many gates together.
+// 10 and 11: the scoring netlist has so many inputs, both netlists together so many gates.
 fn fit(m: u32, inputs: u32, gates: usize) -> Answer
     ensures { λ r. ⌜ r ≡ refuse 10 0 0 (not (eqb m inputs)) ▹ refuse 11 0 0 (ltb gateLimit gates) ⌝ }
 {
@@ -111,8 +111,8 @@ fn fit(m: u32, inputs: u32, gates: usize) -> Answer
     Answer::Done
 }
 
-// 9, 8, 10 and 11, where the deciphering netlist has so many gates and words. The scoring netlist is judged before what it
-// says is looked at.
+// 9, 8, 10 and 11, where the deciphering netlist has so many gates and words. What a broken scoring netlist would need does
+// not matter: 9 comes first.
 fn results(
     instance: u32,
     m: u32,
@@ -142,7 +142,7 @@ fn results(
     first(nine, first(eight, last))
 }
 
-// All of it. emit::decipher_size counts indices and whitening as its lists 1 and 2.
+// All of it. The wiring is judged by emit::decipher_size, whose lists 1 and 2 are 3 and 4 here.
 pub(crate) fn score(
     instance: u32,
     m: u32,
