@@ -140,7 +140,7 @@ static const char *const evaluate_lists[] = {"", "scoring netlist", "record", "w
 static const char *const meter_lists[] = {"", "netlist", "depths", "levels"};
 static const char *const append_lists[] = {"", "key", "record", "IV", "file", "frame"};
 static const char *const score_lists[] = {
-    "", "key", "record", "indices", "whitening or IV", "enciphered record", "deciphering netlist", "scoring netlist",
+    "", "key", "record", "indices", "whitening or IV", "scoring netlist", "enciphered record", "deciphering netlist",
     "glued netlist", "inputs", "wires", "scores",
 };
 
@@ -257,8 +257,8 @@ static bool show_path(uint32_t instance)
         return false;
     }
     struct reply scored = probe_score(instance, RECORD_BITS, key, instances[instance - 1].key, record, RECORD_BITS, indices,
-                                      places, whitening, whites, enciphered, RECORD_BITS, deciphering, MOST_WORDS, scoring,
-                                      scoring_words, glued, MOST_WORDS, inputs, sizeof inputs, wires, MOST_WIRES, scores,
+                                      places, whitening, whites, scoring, scoring_words, enciphered, RECORD_BITS, deciphering,
+                                      MOST_WORDS, glued, MOST_WORDS, inputs, sizeof inputs, wires, MOST_WIRES, scores,
                                       SCORES);
     if (!done("score", score_lists, scored.number, scored.list, scored.place)) {
         return false;

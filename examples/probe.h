@@ -83,8 +83,8 @@ struct reply probe_emit_decipher(uint32_t instance, uint32_t m, const uint32_t *
 
 struct reply probe_score(uint32_t instance, uint32_t m, const uint8_t *key, size_t keys, const uint8_t *record, size_t bits,
                          const uint32_t *indices, size_t places, const uint8_t *whitening, size_t whites,
-                         uint8_t *enciphered, size_t enciphered_room, uint32_t *deciphering, size_t deciphering_room,
-                         const uint32_t *scoring, size_t scoring_words, uint32_t *glued, size_t glued_room,
+                         const uint32_t *scoring, size_t scoring_words, uint8_t *enciphered, size_t enciphered_room,
+                         uint32_t *deciphering, size_t deciphering_room, uint32_t *glued, size_t glued_room,
                          uint8_t *inputs, size_t inputs_room, uint8_t *wires, size_t wires_room, uint8_t *scores,
                          size_t scores_room);
 

@@ -37,7 +37,8 @@ use Rattle.text.specs.declared.Asked.{Asked}
 use Rattle.text.specs.declared.Printing.{Printing}
 use Rattle.text.specs.Asked.{askedOf}
 use Rattle.text.specs.Text.{printed, Printed}
-use Rattle.emit.specs.Emit.{oneHotAnswer, thresholdAnswer, decipherAnswer, decipherNet, Emitted}
+use Rattle.emit.specs.declared.Size.{Size}
+use Rattle.emit.specs.Emit.{oneHotAnswer, thresholdAnswer, wiringAnswer, decipherAnswer, decipherNet, sizedBy, Emitted}
 
 -- two lists that were left by equal answers
 same-left : {r s : Answer} (front old : List ℕ) {x y : List ℕ} → r ≡ s → x ≡ left r front old → y ≡ left s front old → x ≡ y
@@ -94,7 +95,7 @@ cipher-decides inst m key rec idx wh out x y =
     let e = x .answered ∙ sym (y .answered) in
     (e, same-left _ _ e (x .written) (y .written))
 
--- the three calls of emission
+-- the calls of emission
 pub emitted-decides : {due : Answer} {net : Net} (out : List ℕ) {r s : Answer} {v w : List ℕ} → Emitted due net out r v → Emitted due net out s w → (r ≡ s) × (v ≡ w)
 emitted-decides out x y =
     let e = x .answered ∙ sym (y .answered) in
@@ -113,6 +114,10 @@ pub emit-decipher-decides : (inst m : ℕ) (idx wh out : List ℕ) {r s : Answer
     → Emitted (decipherAnswer inst m idx wh (length out)) (decipherNet inst m idx wh) out r v
     → Emitted (decipherAnswer inst m idx wh (length out)) (decipherNet inst m idx wh) out s w → (r ≡ s) × (v ≡ w)
 emit-decipher-decides inst m idx wh out x y = emitted-decides out x y
+
+pub decipher-size-decides : (inst m : ℕ) (idx wh : List ℕ) {r s : Size}
+    → r ≡ sizedBy (wiringAnswer inst m idx wh) (decipherNet inst m idx wh) → s ≡ sizedBy (wiringAnswer inst m idx wh) (decipherNet inst m idx wh) → r ≡ s
+decipher-size-decides inst m idx wh p q = equation-decides (sizedBy (wiringAnswer inst m idx wh) (decipherNet inst m idx wh)) p q
 
 -- the netlist file, in any form
 pub read-decides : (form : Form) (source out : List ℕ) {r s : Answer} {v w : List ℕ} → ReadAs form source out r v → ReadAs form source out s w → (r ≡ s) × (v ≡ w)
@@ -172,7 +177,7 @@ kreyvium-encipher-decides m key rec iv out x y = (x .answered ∙ sym (y .answer
 pub daemon-check-decides : (source : List ℕ) {r s : ℕ} → r ≡ packedOf (checkAnswer Form.Full source) → s ≡ packedOf (checkAnswer Form.Full source) → r ≡ s
 daemon-check-decides source p q = equation-decides (packedOf (checkAnswer Form.Full source)) p q
 
--- the whole path: the answer, the scores and what the rooms hold
+-- the whole path: the answer, and what each result holds
 pub score-decides : (inst m : ℕ) (key rec idx wh score enc net glued inp vals out : List ℕ) {r s : Answer} {e₁ e₂ n₁ n₂ g₁ g₂ i₁ i₂ v₁ v₂ o₁ o₂ : List ℕ}
     → Scored inst m key rec idx wh score enc net glued inp vals out r e₁ n₁ g₁ i₁ v₁ o₁
     → Scored inst m key rec idx wh score enc net glued inp vals out s e₂ n₂ g₂ i₂ v₂ o₂
@@ -180,10 +185,10 @@ pub score-decides : (inst m : ℕ) (key rec idx wh score enc net glued inp vals 
 score-decides inst m key rec idx wh score enc net glued inp vals out x y =
     let e = x .answered ∙ sym (y .answered) in (
       e,
-      x .enciphers ∙ sym (y .enciphers),
-      x .emits ∙ sym (y .emits),
-      x .glues ∙ sym (y .glues),
-      x .lends ∙ sym (y .lends),
+      same-left _ _ e (x .enciphers) (y .enciphers),
+      same-left _ _ e (x .emits) (y .emits),
+      same-left _ _ e (x .glues) (y .glues),
+      same-left _ _ e (x .lends) (y .lends),
       same-left _ _ e (x .evaluates) (y .evaluates),
       same-left _ _ e (x .scores) (y .scores),
     )

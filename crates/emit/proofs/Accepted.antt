@@ -1,10 +1,12 @@
 -- What Done tells of emit_decipher.
 use Prim.Native.Nat.{ℕ, _+_, _*_, _≤_}
-use mathlib.Core.Path.{_≡_, ap, _∙_}
+use mathlib.Core.Bool.{Bool, true, false}
+use mathlib.Core.Path.{_≡_, refl, sym, ap, _∙_}
 use mathlib.Core.List.{List}
 use native.Mathlib.Omega.{arith}
+use lib.Dec.{eqb}
 use lib.ListN.{length}
-use borrow.Author.Tests.{eq-eqb, ne-eqb}
+use borrow.Author.Tests.{eq-eqb, ne-eqb, eqb-true, eqb-false}
 use Rattle.answer.specs.declared.Answer.{Answer}
 use Rattle.answer.specs.declared.Answer.the-variants.{Done, Refused}
 use Rattle.answer.proofs.Rows.{first-done, then-done, stop, pass}
@@ -17,12 +19,13 @@ use Rattle.instance.proofs.Judged.{numbers-done, length-done, room-done, rows-d
 use Rattle.wiring.specs.Exp.{chain}
 use Rattle.wiring.specs.Decipher.{rowsNet}
 use Rattle.rounds.specs.Gates.{kreyviumNet}
-use Rattle.emit.specs.Emit.{wiringAnswer, decipherAnswer, decipherNet}
+use Rattle.rounds.proofs.Sound.{kreyvium-gates, kreyvium-outs}
+use Rattle.emit.specs.declared.Size.{Size}
+use Rattle.emit.specs.Emit.{wiringAnswer, decipherAnswer, decipherNet, sizedBy}
 use Rattle.wiring.proofs.Claims.{rows-outs}
 use Rattle.emit.specs.Lent.{Lent}
 use Rattle.emit.specs.Rows.{Wiring}
 use Rattle.emit.proofs.Puts.{words-length}
-use Rattle.emit.proofs.KreyviumWords.{kreyvium-length}
 
 pub wiring-lent : (inst m : ℕ) (idx wh : List ℕ) → wiringAnswer inst m idx wh ≡ Done → Lent inst m idx wh
 unfolding wiringAnswer
@@ -67,6 +70,13 @@ pub net-rows : (inst m : ℕ) (idx wh : List ℕ) → (inst ≡ 6 → ⊥) → d
 unfolding decipherNet
 net-rows inst m idx wh h = rw (ne-eqb inst 6 h)
 
+pub by-six : (inst : ℕ) {P : Type 0} → (inst ≡ 6 → P) → ((inst ≡ 6 → ⊥) → P) → P
+by-six inst {P} f g = go (eqb inst 6) refl
+  where
+    go : (b : Bool) → eqb inst 6 ≡ b → P
+    go true e = f (eqb-true inst 6 e)
+    go false e = g (eqb-false inst 6 e)
+
 -- how many whitening or IV bits there are
 pub iv-lent : (inst m : ℕ) (idx wh : List ℕ) → Lent inst m idx wh → inst ≡ 6 → length wh ≡ 128
 unfolding whiteBits
@@ -85,14 +95,44 @@ wiring-of inst m idx wh l h =
       rows = record { indices = l .indices; whitening = rows-lent inst m idx wh l h; below = l .below; whiteBit = l .bits };
     }
 
--- how many words the netlist has
-pub kreyvium-words : (inst m : ℕ) (idx wh : List ℕ) → inst ≡ 6 → length (words (decipherNet inst m idx wh)) ≡ 64523 + 69 * m
-kreyvium-words inst m idx wh e = ap (λ (n : Net). length (words n)) (net-kreyvium inst m idx wh e) ∙ kreyvium-length wh m
+-- how many gates, outputs and words the netlist has
+pub kreyvium-count : (inst m : ℕ) (idx wh : List ℕ) → inst ≡ 6 → 16130 + 17 * m ≡ length (decipherNet inst m idx wh .gates)
+kreyvium-count inst m idx wh e =
+    sym (ap (λ (n : Net). length (n .gates)) (net-kreyvium inst m idx wh e) ∙ kreyvium-gates wh m)
 
-pub rows-words : (inst m g : ℕ) (idx wh : List ℕ) → Lent inst m idx wh → (inst ≡ 6 → ⊥) → g ≡ length (rowsNet chain inst idx wh m .gates)
-    → length (words (decipherNet inst m idx wh)) ≡ 3 + 4 * g + m
-rows-words inst m g idx wh l h e =
-    let w = wiring-of inst m idx wh l h in
-    ap (λ (n : Net). length (words n)) (net-rows inst m idx wh h)
-    ∙ words-length (rowsNet chain inst idx wh m)
-    ∙ omega (arith, rows-outs inst m idx wh (w .low) (w .high) (w .rows))
+pub rows-count : (inst m : ℕ) (idx wh : List ℕ) {g : ℕ} → (inst ≡ 6 → ⊥) → g ≡ length (rowsNet chain inst idx wh m .gates)
+    → g ≡ length (decipherNet inst m idx wh .gates)
+rows-count inst m idx wh h e = e ∙ sym (ap (λ (n : Net). length (n .gates)) (net-rows inst m idx wh h))
+
+pub outs-count : (inst m : ℕ) (idx wh : List ℕ) → Lent inst m idx wh → length (decipherNet inst m idx wh .outs) ≡ m
+outs-count inst m idx wh l =
+    by-six inst
+    (λ e. ap (λ (n : Net). length (n .outs)) (net-kreyvium inst m idx wh e) ∙ kreyvium-outs wh m)
+    (λ h. let w = wiring-of inst m idx wh l h in
+    ap (λ (n : Net). length (n .outs)) (net-rows inst m idx wh h) ∙ rows-outs inst m idx wh (w .low) (w .high) (w .rows))
+
+words-count : (inst m : ℕ) (idx wh : List ℕ) → Lent inst m idx wh
+    → 3 + 4 * length (decipherNet inst m idx wh .gates) + m ≡ length (words (decipherNet inst m idx wh))
+words-count inst m idx wh l = omega (arith, words-length (decipherNet inst m idx wh), outs-count inst m idx wh l)
+
+-- What decipher_size returns: nothing but the refusal, or both counts.
+pub no-size : {a r : Answer} {x y z : ℕ} (net : Net) → r ≡ a → r ≡ Refused x y z → record { answer = r; gates = 0; words = 0 } ≡ sizedBy a net
+unfolding sizedBy
+no-size net e h = rw (← e, h)
+
+pub size-is : (inst m : ℕ) (idx wh : List ℕ) (g : ℕ) → wiringAnswer inst m idx wh ≡ Done → g ≡ length (decipherNet inst m idx wh .gates)
+    → record { answer = Done; gates = g; words = 3 + 4 * g + m } ≡ sizedBy (wiringAnswer inst m idx wh) (decipherNet inst m idx wh)
+unfolding sizedBy
+size-is inst m idx wh g e h = rw (e, h, words-count inst m idx wh (wiring-lent inst m idx wh e))
+
+-- what it then tells
+pub size-answer : (a : Answer) (net : Net) {s : Size} → s ≡ sizedBy a net → s .answer ≡ a
+unfolding sizedBy
+size-answer Done net e = ap Size.answer e
+size-answer (Refused x y z) net e = ap Size.answer e
+
+pub size-counts : {a : Answer} (net : Net) {s : Size} → s ≡ sizedBy a net → a ≡ Done → (s .gates ≡ length (net .gates)) × (s .words ≡ length (words net))
+unfolding sizedBy
+size-counts net e h =
+    let d = e ∙ ap (λ (a : Answer). sizedBy a net) h in
+    (ap Size.gates d, ap Size.words d)

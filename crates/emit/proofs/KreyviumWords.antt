@@ -30,7 +30,7 @@ kreyvium-put iv m out o₁ o₂ o₃ room e₁ e₂ e₃ =
     refl (sym (kreyvium-gates iv m)) (sym (kreyvium-outs iv m)) (omega (arith, kreyvium-gates iv m))
     room e₁ e₂ (e₃ ∙ ap (sets o₂ (64523 + 68 * m)) f)
 
-pub kreyvium-length : (iv : List ℕ) (m : ℕ) → length (words (kreyviumNet iv m)) ≡ 64523 + 69 * m
+kreyvium-length : (iv : List ℕ) (m : ℕ) → length (words (kreyviumNet iv m)) ≡ 64523 + 69 * m
 kreyvium-length iv m = omega (arith, words-length (kreyviumNet iv m), kreyvium-gates iv m, kreyvium-outs iv m)
 
 pub kreyvium-room : (iv : List ℕ) (m room : ℕ) → length (words (kreyviumNet iv m)) ≤ room → 64523 + 69 * m ≤ room

@@ -1,4 +1,4 @@
--- What the three calls of emission answer and leave. Document 01, "What is emitted" and "Answer numbers".
+-- What the calls of emission answer and leave. Document 01, "What is emitted" and "Answer numbers".
 use Prim.Native.Nat.{ℕ, _+_, _*_}
 use mathlib.Core.Path.{_≡_}
 use mathlib.Core.Bool.{Bool, true}
@@ -6,6 +6,7 @@ use mathlib.Core.List.{List}
 use lib.ListN.{length}
 use lib.Dec.{ltb, eqb}
 use Rattle.answer.specs.declared.Answer.{Answer}
+use Rattle.answer.specs.declared.Answer.the-variants.{Done, Refused}
 use Rattle.answer.specs.Answers.{_▹_, refuse}
 use Rattle.answer.specs.Bits.{bitsAnswer}
 use Rattle.answer.specs.Choose.{choose}
@@ -18,6 +19,7 @@ use Rattle.cells.specs.Cells.{oneHotNet, thresholdNet}
 use Rattle.wiring.specs.Exp.{chain}
 use Rattle.wiring.specs.Decipher.{rowsNet}
 use Rattle.rounds.specs.Gates.{kreyviumNet}
+use Rattle.emit.specs.declared.Size.{Size}
 
 -- 13: n above 64; 8 on the result, for which so many words are lent
 unfoldable pub oneHotAnswer : ℕ → ℕ → Answer
@@ -41,6 +43,11 @@ wiringAnswer inst m idx wh =
     ▹ (lengthAnswer 1 (length idx) (m * rowBits inst) ▹ lengthAnswer 2 (length wh) (whiteBits inst m))
     ▹ bitsAnswer 2 wh
     ▹ (rowsAnswer 1 (keyBits inst) (rowBits inst) idx ▹ whiteAnswer 2 inst wh)
+
+-- that answer, and how many gates and words the netlist has, none on a refusal
+unfoldable pub sizedBy : Answer → Net → Size
+sizedBy Done net = record { answer = Done; gates = length (net .gates); words = length (words net) }
+sizedBy (Refused number list place) net = record { answer = Refused number list place; gates = 0; words = 0 }
 
 -- and 8
 unfoldable pub decipherAnswer : ℕ → ℕ → List ℕ → List ℕ → ℕ → Answer

@@ -13,8 +13,15 @@ ghost use lib.ListN.{length};
 ghost use Rattle.answer.specs.Fronts.{over};
 ghost use Rattle.cells.specs.Cells.{oneHotNet, thresholdNet};
 ghost use Rattle.netlist.specs.Words.{words};
-ghost use Rattle.emit.specs.Emit.{oneHotAnswer, thresholdAnswer, decipherNet, decipherAnswer, Emitted};
+ghost use Rattle.emit.specs.Emit.{oneHotAnswer, thresholdAnswer, decipherNet, wiringAnswer, decipherAnswer, sizedBy, Emitted};
 ghost use Rattle.emit.specs.Lent.{Lent};
+
+// How many gates and words a netlist has, where the call that says so is done.
+pub struct Size {
+    pub answer: Answer,
+    pub gates: usize,
+    pub words: usize,
+}
 
 // The one-hot netlist of n inputs.
 pub fn emit_one_hot(n: u32, result: &mut [u32]) -> Answer
@@ -46,16 +53,36 @@ pub fn emit_threshold(d: u32, n: u32, result: &mut [u32]) -> Answer
     nets::threshold(d, n, result, &mut wires)
 }
 
-// How many words the deciphering netlist of an accepted wiring has.
-fn decipher_words(instance: u32, m: u32, indices: &[u32], whitening: &[u8]) -> usize
+// How many gates the deciphering netlist of an accepted wiring has.
+fn decipher_gates(instance: u32, m: u32, indices: &[u32], whitening: &[u8]) -> usize
     requires { ⌜ Lent instance m (now indices) (now whitening) ⌝ }
-    ensures { λ r. ⌜ r ≡ length (words (decipherNet instance m (now (indices .entry)) (now (whitening .entry)))) ⌝ }
+    ensures { λ r. ⌜ (r ≡ length (decipherNet instance m (now (indices .entry)) (now (whitening .entry)) .gates)) × (r ≤ 178432) ⌝ }
 {
-    let bits = m as usize;
     if instance == 6 {
-        return 64523 + 69 * bits;
+        return 16130 + 17 * (m as usize);
     }
-    3 + 4 * rows::rows_gates(instance, m, whitening) + bits
+    rows::rows_gates(instance, m, whitening)
+}
+
+// What emit_decipher needs room for: how many gates and words the deciphering netlist has. All is judged that emit_decipher
+// judges, but for the room. Both are 0 on a refusal.
+pub fn decipher_size(instance: u32, m: u32, indices: &[u32], whitening: &[u8]) -> Size
+    ensures { λ r. ⌜ r ≡ sizedBy (wiringAnswer instance m (now (indices .entry)) (now (whitening .entry))) (decipherNet instance m (now (indices .entry)) (now (whitening .entry))) ⌝ }
+{
+    let r = judge::wiring(instance, m, indices, whitening);
+    let Answer::Done = r else {
+        return Size {
+            answer: r,
+            gates: 0,
+            words: 0,
+        };
+    };
+    let gates = decipher_gates(instance, m, indices, whitening);
+    Size {
+        answer: Answer::Done,
+        gates,
+        words: 3 + 4 * gates + m as usize,
+    }
 }
 
 // That netlist, where there is room for it.
@@ -81,12 +108,12 @@ pub fn emit_decipher(
 ) -> Answer
     ensures { λ r. ⌜ Emitted (decipherAnswer instance m (now (indices .entry)) (now (whitening .entry)) (length (now (result .entry)))) (decipherNet instance m (now (indices .entry)) (now (whitening .entry))) (now (result .entry)) r (now (result .exit)) ⌝ }
 {
-    let r = judge::wiring(instance, m, indices, whitening);
+    let size = decipher_size(instance, m, indices, whitening);
+    let r = size.answer;
     let Answer::Done = r else {
         return r;
     };
-    let needed = decipher_words(instance, m, indices, whitening);
-    let s = instance::room(result.len(), needed, 3);
+    let s = instance::room(result.len(), size.words, 3);
     let Answer::Done = s else {
         return s;
     };

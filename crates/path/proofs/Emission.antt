@@ -1,14 +1,11 @@
 -- Demand 2 of the emitted netlists, over the definitions that the promises of emit_decipher, evaluate, decipher and the
 -- meter cite: for every instance, every accepted row or IV, every key and every record of bits.
 use Prim.Native.Nat.{ℕ, _+_, _*_, _/_, _%_, _<_, _≤_}
-use mathlib.Core.Bool.{Bool, true, false}
-use mathlib.Core.Path.{_≡_, refl, sym, ap, _∙_}
+use mathlib.Core.Path.{_≡_, sym, ap, _∙_}
 use mathlib.Core.List.{List, _++_}
 use native.Mathlib.Omega.{arith}
 use lib.ListN.{length, getD, replicate}
 use lib.Seq.{ext-getD}
-use lib.Dec.{eqb}
-use borrow.Author.Tests.{eqb-true, eqb-false}
 use Rattle.answer.specs.Bits.{added}
 use Rattle.answer.proofs.Search.{bits-within}
 use Rattle.answer.proofs.Added.{added-length, added-at}
@@ -24,9 +21,9 @@ use Rattle.cells.proofs.Facts.{one-hot-valid, one-hot-inputs, one-hot-outputs, 
 use Rattle.wiring.specs.Costs.{costOf}
 use Rattle.wiring.specs.Decipher.{rowsNet}
 use Rattle.wiring.specs.Rows.{Rows, Inputs, decipherBit}
-use Rattle.wiring.proofs.Claims.{rows-right, rows-mults, rows-depth, rows-outs, rows-sound}
+use Rattle.wiring.proofs.Claims.{rows-right, rows-mults, rows-depth, rows-sound}
 use Rattle.rounds.specs.Gates.{kreyviumNet}
-use Rattle.rounds.proofs.Sound.{kreyvium-outs, kreyvium-mults, kreyvium-sound}
+use Rattle.rounds.proofs.Sound.{kreyvium-mults, kreyvium-sound}
 use Rattle.rounds.proofs.Values.{kreyvium-right}
 use Rattle.rounds.proofs.Depths.{kreyvium-depths}
 use Rattle.cipher.specs.Rows.{streamBit}
@@ -34,14 +31,7 @@ use Rattle.cipher.specs.Cipher.{encipherOf}
 use Rattle.cipher.proofs.Accepted.{stream-of, rows-of}
 use Rattle.emit.specs.Emit.{decipherNet}
 use Rattle.emit.specs.Lent.{Lent}
-use Rattle.emit.proofs.Accepted.{net-kreyvium, net-rows, iv-lent, rows-lent}
-
-by-six : (inst : ℕ) {P : Type 0} → (inst ≡ 6 → P) → ((inst ≡ 6 → ⊥) → P) → P
-by-six inst {P} f g = go (eqb inst 6) refl
-  where
-    go : (b : Bool) → eqb inst 6 ≡ b → P
-    go true e = f (eqb-true inst 6 e)
-    go false e = g (eqb-false inst 6 e)
+use Rattle.emit.proofs.Accepted.{net-kreyvium, net-rows, by-six, iv-lent, rows-lent, outs-count}
 
 -- a table of keystream bits added to a record
 added-tab : (f : ℕ → ℕ) (rec : List ℕ) (m : ℕ) → length rec ≡ m → added rec (tab f m) ≡ tab (λ i. (f i + getD rec i 0) % 2) m
@@ -98,10 +88,7 @@ module _ (inst m : ℕ) (idx wh : List ℕ) (l : Lent inst m idx wh) where
       (λ n. ap (λ (n : Net). n .inputs) (net-rows inst m idx wh n))
 
   pub emitted-outputs : outputsOf (words (decipherNet inst m idx wh)) ≡ m
-  emitted-outputs =
-      by-six inst
-      (λ e. ap (λ (n : Net). length (n .outs)) (net-kreyvium inst m idx wh e) ∙ kreyvium-outs wh m)
-      (λ n. ap (λ (n : Net). length (n .outs)) (net-rows inst m idx wh n) ∙ rows-outs inst m idx wh (l .least) (five n) (rows n))
+  emitted-outputs = outs-count inst m idx wh l
 
   -- Multiplications and depth: document 01's table for instances 1 to 5; Kreyvium's, and its bound for output bit t.
   pub emitted-mults : (inst ≡ 6 → ⊥) → mults (decipherNet inst m idx wh) ≡ m * costOf inst .mults

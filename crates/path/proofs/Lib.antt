@@ -2,5 +2,6 @@ pub mod Gluing
 pub mod Emission
 pub mod Scores
 pub mod Lists
-pub mod Called
-pub mod Along
+pub mod Judging
+pub mod Accepted
+pub mod Writing

@@ -9,8 +9,7 @@ use Rattle.answer.proofs.Added.{added-length, added-twice, added-bits}
 use Rattle.netlist.specs.Net.{Net, eval}
 use Rattle.netlist.specs.Words.{inputsOf, words, netOf}
 use Rattle.netlist.proofs.Words.{netOf-words}
-use Rattle.cipher.specs.Cipher.{keystreamOf, encipherOf, Ciphered}
-use Rattle.cipher.proofs.Accepted.{encipher-lent}
+use Rattle.cipher.specs.Cipher.{keystreamOf, encipherOf}
 use Rattle.cipher.proofs.Written.{keystream-length}
 use Rattle.wiring.specs.Rows.{Inputs}
 use Rattle.glue.specs.Glue.{gluedWords}

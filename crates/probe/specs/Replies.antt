@@ -15,6 +15,7 @@ use Rattle.glue.specs.Glue.{GluedAs}
 use Rattle.choice.specs.Choice.{Chosen}
 use Rattle.cipher.specs.Cipher.{Streamed, Ciphered}
 use Rattle.netlist.specs.Net.{Net}
+use Rattle.emit.specs.declared.Size.{Size}
 use Rattle.emit.specs.Emit.{Emitted}
 use Rattle.path.specs.Path.{Scored}
 use Rattle.file.specs.declared.form.Form.the-variants.{Full}
@@ -30,6 +31,7 @@ use Rattle.frames.specs.Layout.{bitsOf}
 use Rattle.probe.specs.declared.Reply.{Reply}
 use Rattle.probe.specs.declared.Metering.{Metering}
 use Rattle.probe.specs.declared.Printout.{Printout}
+use Rattle.probe.specs.declared.Sizing.{Sizing}
 use Rattle.probe.specs.declared.Fielding.{Fielding}
 use Rattle.probe.specs.declared.Putting.{Putting}
 
@@ -74,6 +76,15 @@ pub record CipherReply (inst m : ℕ) (key rec idx wh out : List ℕ) (r : Reply
   pub answer : Answer
   pub outcome : Ciphered inst m key rec idx wh out answer out′
   pub told : r ≡ replyOf answer
+
+unfoldable pub sizingOf : Size → Sizing
+sizingOf s = record {
+  number = numberOf (s .answer);
+  list = listOf (s .answer);
+  place = placeOf (s .answer);
+  gates = s .gates;
+  words = s .words;
+}
 
 -- a call of emission that was due this answer, of this netlist
 pub record EmitReply (due : Answer) (net : Net) (out : List ℕ) (r : Reply) (out′ : List ℕ) : Type 0 where

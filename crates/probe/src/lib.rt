@@ -1,6 +1,7 @@
 // The public calls, exported for the tests and the demonstration. Lists pass as a pointer and a length, an answer as its
 // number, list and place: 0, 0, 0 for done.
 use answer::Answer;
+use emit::Size;
 use frames::port::Found;
 use frames::port::Made;
 use frames::port::Port;
@@ -11,12 +12,12 @@ ghost use mathlib.Core.Path.{_≡_};
 ghost use lib.ListN.{length};
 ghost use Rattle.netlist.specs.Check.{netAnswer};
 ghost use Rattle.cells.specs.Cells.{oneHotNet, thresholdNet};
-ghost use Rattle.emit.specs.Emit.{oneHotAnswer, thresholdAnswer, decipherNet, decipherAnswer};
+ghost use Rattle.emit.specs.Emit.{oneHotAnswer, thresholdAnswer, decipherNet, wiringAnswer, decipherAnswer, sizedBy};
 ghost use Rattle.file.specs.File.{checkAnswer};
 ghost use Rattle.file.specs.declared.form.Form.the-variants.{Full};
 ghost use Rattle.frames.specs.Frames.{fileAnswer};
 ghost use Rattle.frames.specs.Layout.{portOf, portMade, fieldsAnswer, foundBy};
-ghost use Rattle.probe.specs.Replies.{replyOf, meteringOf, EvaluateReply, MeterReply, GlueReply, ChooseReply, KeystreamReply, CipherReply, EmitReply, ScoreReply, ReadReply, WriteReply, printoutOf, PrintReply, AppendReply, AppendAfterReply, FramesReply, fieldingOf, puttingOf, bitsLeft};
+ghost use Rattle.probe.specs.Replies.{replyOf, meteringOf, sizingOf, EvaluateReply, MeterReply, GlueReply, ChooseReply, KeystreamReply, CipherReply, EmitReply, ScoreReply, ReadReply, WriteReply, printoutOf, PrintReply, AppendReply, AppendAfterReply, FramesReply, fieldingOf, puttingOf, bitsLeft};
 
 #[repr(C)]
 pub struct Reply {
@@ -41,6 +42,16 @@ pub struct Printout {
     pub list: u32,
     pub place: usize,
     pub size: usize,
+}
+
+// How many gates and words a netlist has, both 0 on a refusal.
+#[repr(C)]
+pub struct Sizing {
+    pub number: u32,
+    pub list: u32,
+    pub place: usize,
+    pub gates: usize,
+    pub words: usize,
 }
 
 // A port's fields, all 0 on a refusal.
@@ -212,6 +223,32 @@ pub extern "C" fn probe_emit_decipher(
     told(emit::emit_decipher(instance, m, indices, whitening, result))
 }
 
+fn sizing_of(size: Size) -> Sizing
+    ensures { λ r. ⌜ r ≡ sizingOf size ⌝ }
+{
+    let answer = size.answer;
+    let reply = told(answer);
+    Sizing {
+        number: reply.number,
+        list: reply.list,
+        place: reply.place,
+        gates: size.gates,
+        words: size.words,
+    }
+}
+
+#[no_mangle]
+pub extern "C" fn probe_decipher_size(
+    instance: u32,
+    m: u32,
+    indices: &[u32],
+    whitening: &[u8],
+) -> Sizing
+    ensures { λ r. ⌜ r ≡ sizingOf (sizedBy (wiringAnswer instance m (now (indices .entry)) (now (whitening .entry))) (decipherNet instance m (now (indices .entry)) (now (whitening .entry)))) ⌝ }
+{
+    sizing_of(emit::decipher_size(instance, m, indices, whitening))
+}
+
 #[no_mangle]
 pub extern "C" fn probe_score(
     instance: u32,
@@ -220,9 +257,9 @@ pub extern "C" fn probe_score(
     record: &[u8],
     indices: &[u32],
     whitening: &[u8],
+    scoring: &[u32],
     enciphered: &mut [u8],
     deciphering: &mut [u32],
-    scoring: &[u32],
     glued: &mut [u32],
     inputs: &mut [u8],
     wires: &mut [u8],
@@ -237,9 +274,9 @@ pub extern "C" fn probe_score(
         record,
         indices,
         whitening,
+        scoring,
         enciphered,
         deciphering,
-        scoring,
         glued,
         inputs,
         wires,

@@ -5,7 +5,7 @@
 
 #![forbid(unsafe_code)]
 
-use crate::cipher::{self, by_marks, Cipher, Lists, Search, MAX_BITS, MAX_ROW};
+use crate::cipher::{self, by_marks, Cipher, Instance, Lists, Search, MAX_BITS, MAX_ROW};
 use crate::kreyvium::{self, SILENT};
 use crate::netlist::{Answer, AND, HEADER, MUX, NOT, ONE, XOR, ZERO};
 
@@ -419,13 +419,9 @@ fn try_decipher(
     };
     let instance = cipher::judge(number, m, &lists, search)?;
     let m = m as usize;
-    let gates = match instance.cipher {
-        Cipher::Kreyvium => 2 + 14 * (SILENT + m) + 3 * m,
-        _ => m * (filter_gates(number, instance.row) + 1) + ones(whitening),
-    };
     let counts = Counts {
         inputs: instance.key + m,
-        gates,
+        gates: deciphering_gates(number, m, whitening),
         outputs: m,
     };
     counts.emit(lists.result_list(), result, |gates, outputs| {
@@ -448,6 +444,58 @@ fn try_decipher(
             *output = gates.xor(filtered, record);
         }
     })
+}
+
+/// How many gates the deciphering netlist has, where nothing speaks against the
+/// call.
+pub fn deciphering_gates(number: u32, m: usize, whitening: &[u8]) -> usize {
+    match Instance::numbered(number).expect("an instance") {
+        Instance {
+            cipher: Cipher::Kreyvium,
+            ..
+        } => 2 + 14 * (SILENT + m) + 3 * m,
+        instance => m * (filter_gates(number, instance.row) + 1) + ones(whitening),
+    }
+}
+
+/// How large a deciphering netlist is: 0 gates and 0 words on a refusal.
+#[derive(Clone, Copy, Debug, PartialEq, Eq)]
+pub struct Size {
+    pub answer: Answer,
+    pub gates: usize,
+    pub words: usize,
+}
+
+impl Size {
+    pub const fn refused(answer: Answer) -> Self {
+        Size {
+            answer,
+            gates: 0,
+            words: 0,
+        }
+    }
+}
+
+/// How large the netlist is that [`decipher`] writes, and how much room it needs
+/// for it. The lists: indices 1, whitening or IV 2.
+pub fn decipher_size(number: u32, m: u32, indices: &[u32], whitening: &[u8]) -> Size {
+    let lists = Lists {
+        key: None,
+        record: None,
+        indices,
+        whitening,
+    };
+    match cipher::judge(number, m, &lists, by_marks) {
+        Err(answer) => Size::refused(answer),
+        Ok(_) => {
+            let gates = deciphering_gates(number, m as usize, whitening);
+            Size {
+                answer: Answer::DONE,
+                gates,
+                words: HEADER + 4 * gates + m as usize,
+            }
+        }
+    }
 }
 
 /// How many of these bits are 1.

@@ -3,10 +3,11 @@
 
 #![forbid(unsafe_code)]
 
-use crate::netlist::{self, length, Answer};
-use crate::{cipher, emission};
+use crate::cipher::{self, by_marks, Lists};
+use crate::emission;
+use crate::netlist::{self, length, Answer, Netlist, HEADER, MAX_GATES};
 
-/// What the call reads: lists 1 to 4, and 7.
+/// What the call reads: lists 1 to 5.
 #[derive(Clone, Copy)]
 pub struct Read<'a> {
     pub key: &'a [u8],
@@ -16,7 +17,7 @@ pub struct Read<'a> {
     pub scoring: &'a [u32],
 }
 
-/// What it fills: lists 5 and 6, and 8 to 11.
+/// What it fills: lists 6 to 11.
 pub struct Rooms<'a> {
     pub enciphered: &'a mut [u8],
     pub deciphering: &'a mut [u32],
@@ -26,13 +27,57 @@ pub struct Rooms<'a> {
     pub scores: &'a mut [u8],
 }
 
-/// Scores a record by way of its enciphered form. Each step leaves what it makes
-/// in its room, and the first refusal ends the path.
+/// Scores a record by way of its enciphered form. All is judged before anything
+/// is written.
 pub fn score(instance: u32, m: u32, read: &Read, rooms: Rooms) -> Answer {
-    try_score(instance, m, read, rooms).into()
+    let answer = judge(instance, m, read, &rooms).into();
+    if answer == Answer::DONE {
+        write(instance, m, read, rooms);
+    }
+    answer
 }
 
-fn try_score(instance: u32, m: u32, read: &Read, rooms: Rooms) -> Result<(), Answer> {
+/// What enciphering refuses; the scoring netlist; then each room, and whether
+/// the two netlists fit.
+fn judge(number: u32, m: u32, read: &Read, rooms: &Rooms) -> Result<(), Answer> {
+    let lists = Lists {
+        key: Some(read.key),
+        record: Some(read.record),
+        indices: read.indices,
+        whitening: read.whitening,
+    };
+    let instance = cipher::judge(number, m, &lists, by_marks)?;
+    let scoring = Netlist::lent(read.scoring, 5)?;
+
+    let m = m as usize;
+    let inputs = instance.key + m;
+    let outputs = scoring.outputs.len();
+    let deciphering = emission::deciphering_gates(number, m, read.whitening);
+    let gates = deciphering + scoring.gates.len();
+    let needs = [
+        (rooms.enciphered.len(), m),
+        (rooms.deciphering.len(), HEADER + 4 * deciphering + m),
+        (rooms.glued.len(), HEADER + 4 * gates + outputs),
+        (rooms.inputs.len(), inputs),
+        (rooms.wires.len(), inputs + gates),
+        (rooms.scores.len(), outputs),
+    ];
+    for (list, (lent, needed)) in (6..).zip(needs) {
+        if lent < needed {
+            return Err(Answer::too_short(list, lent));
+        }
+    }
+    if scoring.inputs != m {
+        return Err(Answer::COUNTS_DIFFER);
+    }
+    if gates > MAX_GATES {
+        return Err(Answer::TOO_MANY_GATES);
+    }
+    Ok(())
+}
+
+/// Takes the steps, against which nothing speaks.
+fn write(instance: u32, m: u32, read: &Read, rooms: Rooms) {
     let Read {
         key,
         record,
@@ -48,34 +93,24 @@ fn try_score(instance: u32, m: u32, read: &Read, rooms: Rooms) -> Result<(), Ans
         wires,
         scores,
     } = rooms;
+    let step = |answer| assert_eq!(answer, Answer::DONE, "all is judged");
 
-    let answer = cipher::encipher(instance, m, key, record, indices, whitening, enciphered);
-    step(answer, &[1, 2, 3, 4, 5])?;
-    let answer = emission::decipher(instance, m, indices, whitening, deciphering);
-    step(answer, &[3, 4, 6])?;
+    step(cipher::encipher(
+        instance, m, key, record, indices, whitening, enciphered,
+    ));
+    step(emission::decipher(
+        instance,
+        m,
+        indices,
+        whitening,
+        deciphering,
+    ));
     let deciphering = &deciphering[..length(deciphering)];
-    step(netlist::glue(deciphering, scoring, glued), &[6, 7, 8])?;
+    step(netlist::glue(deciphering, scoring, glued));
+    let glued = &glued[..length(glued)];
 
     let both = [key, &enciphered[..m as usize]].concat();
-    let room = inputs.len();
-    let inputs = inputs
-        .get_mut(..both.len())
-        .ok_or(Answer::too_short(9, room))?;
+    let inputs = &mut inputs[..both.len()];
     inputs.copy_from_slice(&both);
-
-    let glued = &glued[..length(glued)];
-    let answer = netlist::evaluate(glued, inputs, wires, scores);
-    step(answer, &[8, 9, 10, 11])
-}
-
-/// What a step answers, where its lists are counted as `lists` here.
-fn step(answer: Answer, lists: &[u32]) -> Result<(), Answer> {
-    if answer == Answer::DONE {
-        return Ok(());
-    }
-    let list = match answer.list {
-        0 => 0,
-        list => lists[list as usize - 1],
-    };
-    Err(Answer { list, ..answer })
+    step(netlist::evaluate(glued, inputs, wires, scores));
 }

@@ -23,8 +23,8 @@ pub struct Path {
     pub scores: Vec<u8>,
 }
 
-/// The lists that are rooms, in the order in which they are filled.
-pub const ROOMS: [u32; 6] = [5, 6, 8, 9, 10, 11];
+/// The lists that are rooms.
+pub const ROOMS: [u32; 6] = [6, 7, 8, 9, 10, 11];
 
 impl Path {
     pub fn read(&self) -> Read<'_> {
@@ -43,15 +43,15 @@ impl Path {
         (self.emission.words() - HEADER - self.emission.call.m as usize) / 4
     }
 
-    /// How much is written to that room, if the steps up to it are done.
+    /// How much is written to that room.
     pub fn need(&self, room: u32) -> usize {
         let m = self.emission.call.m as usize;
         let inputs = self.emission.call.key.len() + m;
         let gates = || self.deciphering_gates() + self.scoring[1] as usize;
         let outputs = || self.scoring[2] as usize;
         match room {
-            5 => m,
-            6 => self.emission.words(),
+            6 => m,
+            7 => self.emission.words(),
             8 => HEADER + 4 * gates() + outputs(),
             9 => inputs,
             10 => inputs + gates(),
@@ -63,8 +63,8 @@ impl Path {
     /// Leaves that many places of a room, or fewer.
     pub fn shorten(&mut self, room: u32, places: usize) {
         match room {
-            5 => self.emission.call.result.truncate(places),
-            6 => self.emission.result.truncate(places),
+            6 => self.emission.call.result.truncate(places),
+            7 => self.emission.result.truncate(places),
             8 => self.glued.truncate(places),
             9 => self.inputs.truncate(places),
             10 => self.wires.truncate(places),
@@ -115,7 +115,7 @@ pub enum Fault {
     Counts,
     /// The glued netlist would have too many gates.
     Gates,
-    /// A room after the first is too short.
+    /// A room is too short.
     Room(u32),
 }
 
@@ -133,15 +133,15 @@ pub const FAULTS: [Fault; 21] = [
     Fault::Cipher(cipher_cases::Fault::Index),
     Fault::Cipher(cipher_cases::Fault::Repeat),
     Fault::Cipher(cipher_cases::Fault::Whitened),
-    Fault::Cipher(cipher_cases::Fault::Room),
-    Fault::Room(6),
     Fault::Scoring,
+    Fault::Room(6),
+    Fault::Room(7),
     Fault::Room(8),
-    Fault::Counts,
-    Fault::Gates,
     Fault::Room(9),
     Fault::Room(10),
     Fault::Room(11),
+    Fault::Counts,
+    Fault::Gates,
 ];
 
 impl Fault {
@@ -164,7 +164,7 @@ pub fn inflict(random: &mut Random, path: &mut Path, fault: Fault) -> Condition 
         Fault::Scoring => loop {
             let fault = random.pick(&cases::FAULTS);
             if let Some(place) = cases::inflict(random, &mut path.scoring, fault) {
-                return (9, 7, place);
+                return (9, 5, place);
             }
         },
         Fault::Counts => {

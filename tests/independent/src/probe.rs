@@ -1,6 +1,7 @@
 //! The library under test, through its C interface: a list goes over as its
 //! first place and its length.
 
+use crate::emission::Size;
 use crate::frames::{Fields, Put, Taken};
 use crate::netlist::{Answer, Level, Metering};
 use crate::path::{Read, Rooms};
@@ -29,6 +30,15 @@ struct RawPrinting {
     list: u32,
     place: usize,
     size: usize,
+}
+
+#[repr(C)]
+struct RawSize {
+    number: u32,
+    list: u32,
+    place: usize,
+    gates: usize,
+    words: usize,
 }
 
 #[repr(C)]
@@ -150,6 +160,17 @@ extern "C" {
         result_length: usize,
     ) -> RawReply;
 
+    /// Returned as by `probe_meter`.
+    fn probe_decipher_size(
+        returned: *mut RawSize,
+        instance: u32,
+        m: u32,
+        indices: *const u32,
+        indices_length: usize,
+        whitening: *const u8,
+        whitening_length: usize,
+    ) -> *mut RawSize;
+
     fn probe_score(
         instance: u32,
         m: u32,
@@ -161,12 +182,12 @@ extern "C" {
         indices_length: usize,
         whitening: *const u8,
         whitening_length: usize,
+        scoring: *const u32,
+        scoring_length: usize,
         enciphered: *mut u8,
         enciphered_length: usize,
         deciphering: *mut u32,
         deciphering_length: usize,
-        scoring: *const u32,
-        scoring_length: usize,
         glued: *mut u32,
         glued_length: usize,
         inputs: *mut u8,
@@ -464,6 +485,32 @@ pub fn emit_decipher(
     .into()
 }
 
+pub fn decipher_size(instance: u32, m: u32, indices: &[u32], whitening: &[u8]) -> Size {
+    let mut returned = MaybeUninit::uninit();
+    // SAFETY: as in `meter`.
+    let raw = unsafe {
+        probe_decipher_size(
+            returned.as_mut_ptr(),
+            instance,
+            m,
+            indices.as_ptr(),
+            indices.len(),
+            whitening.as_ptr(),
+            whitening.len(),
+        );
+        returned.assume_init()
+    };
+    Size {
+        answer: Answer {
+            number: raw.number,
+            list: raw.list,
+            place: raw.place,
+        },
+        gates: raw.gates,
+        words: raw.words,
+    }
+}
+
 pub fn score(instance: u32, m: u32, read: &Read, rooms: Rooms) -> Answer {
     // SAFETY: as in `check`.
     unsafe {
@@ -478,12 +525,12 @@ pub fn score(instance: u32, m: u32, read: &Read, rooms: Rooms) -> Answer {
             read.indices.len(),
             read.whitening.as_ptr(),
             read.whitening.len(),
+            read.scoring.as_ptr(),
+            read.scoring.len(),
             rooms.enciphered.as_mut_ptr(),
             rooms.enciphered.len(),
             rooms.deciphering.as_mut_ptr(),
             rooms.deciphering.len(),
-            read.scoring.as_ptr(),
-            read.scoring.len(),
             rooms.glued.as_mut_ptr(),
             rooms.glued.len(),
             rooms.inputs.as_mut_ptr(),

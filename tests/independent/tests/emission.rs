@@ -7,6 +7,7 @@ use independent::both::{check, glue, glued, glued_length, metered, run};
 use independent::cases;
 use independent::cipher_cases::{self, Fault, List};
 use independent::definitions::{self, Condition};
+use independent::emission::Size;
 use independent::emission_cases::{self, Emission, FAULTS};
 use independent::lent::{show, Lent};
 use independent::netlist::{length, Answer, Metering, AND, HEADER, MAX_GATES, MUX, NOT, XOR};
@@ -82,19 +83,43 @@ fn decipher(emission: &Emission) -> Emitted {
     };
     let mut indices = Lent::new(&call.indices);
     let mut whitening = Lent::new(&call.whitening);
-    let emitted = {
+    let (emitted, library, rust) = {
         let (of_library, of_rust) = indices.each();
         let (white_of_library, white_of_rust) = whitening.each();
-        both(
+        let emitted = both(
             &emission.result,
             &case,
             |result| probe::emit_decipher(instance, m, of_library, white_of_library, result),
             |result| emission::decipher(instance, m, of_rust, white_of_rust, result),
+        );
+        (
+            emitted,
+            probe::decipher_size(instance, m, of_library, white_of_library),
+            emission::decipher_size(instance, m, of_rust, white_of_rust),
         )
     };
+    assert_eq!(library, rust, "sizes of library, rust; {}", case());
+    assert_size(&emitted, rust, emission.result.len());
     indices.settle(0, "indices", &case);
     whitening.settle(0, "whitening bits", &case);
     emitted
+}
+
+/// The size is that of the netlist that was written. A refusal is the same, but
+/// for one for want of room.
+fn assert_size((answer, result): &Emitted, size: Size, room: usize) {
+    match answer.number {
+        0 => {
+            assert_eq!(size.answer, Answer::DONE);
+            assert_eq!(size.gates, result[1] as usize);
+            assert_eq!(size.words, length(result));
+        }
+        8 => {
+            assert_eq!(size.answer, Answer::DONE);
+            assert!(size.words > room);
+        }
+        _ => assert_eq!(size, Size::refused(*answer)),
+    }
 }
 
 /// Lends rooms of every kind to an emission that has to write `expected`: too

@@ -1,4 +1,3 @@
-use Prim.Native.Nat.{_≤_}
 use mathlib.Core.Path.{_≡_, refl, sym, ap, _∙_}
 use denote.Ref.{now}
 use lib.ListN.{length}
@@ -8,8 +7,7 @@ use Rattle.netlist.specs.Words.{words}
 use Rattle.instance.specs.Judging.{roomAnswer}
 use Rattle.instance.proofs.Judged.{room-done}
 use Rattle.emit.specs.Emit.{wiringAnswer, decipherNet}
-use Rattle.emit.specs.Lent.{Lent}
-use Rattle.emit.proofs.Accepted.{wiring-lent, refused-early, judged}
+use Rattle.emit.proofs.Accepted.{wiring-lent, refused-early, judged, size-answer, size-counts}
 use borrow.Author.Needs.{needs}
 use Rattle.emit.proofs.emit_decipher.Statement.{statement}
 use Rattle.emit.proofs.emit_decipher.Tie as tie
@@ -17,24 +15,18 @@ use Rattle.emit.proofs.emit_decipher.Tie as tie
 -- the wiring is accepted
 accepted : (c : tie.After-enum-told)
     → let a = c .before .before .before .before .before .before .args in wiringAnswer (a .instance) (a .m) (now (a .indices)) (now (a .whitening)) ≡ Done
-accepted c = sym (c .before .before .wiring .ensures) ∙ c .enum-told .given .1
+accepted c = sym (size-answer _ _ (c .before .before .decipher-size .ensures)) ∙ c .enum-told .given .1
 
-lent : (c : tie.After-enum-told)
-    → let a = c .before .before .before .before .before .before .args in Lent (a .instance) (a .m) (now (a .indices)) (now (a .whitening))
-lent c = wiring-lent _ _ _ _ (accepted c)
+-- and what is answered on the room
+due : (c : tie.After-room)
+    → let a = c .before .before .before .before .before .before .before .args in
+    c .room .result ≡ roomAnswer 3 (length (now (a .result))) (length (words (decipherNet (a .instance) (a .m) (now (a .indices)) (now (a .whitening)))))
+due c =
+    let a = c .before .before .before .before .before .before .before .args in
+    c .room .ensures ∙ ap (roomAnswer 3 (length (now (a .result)))) (size-counts _ (c .before .before .before .decipher-size .ensures) (accepted (c .before)) .1)
 
--- and there is room
-spacious : (c : tie.After-enum-told3)
-    → let a = c .before .before .before .before .before .before .before .before .before .before .args in
-    length (words (decipherNet (a .instance) (a .m) (now (a .indices)) (now (a .whitening)))) ≤ length (now (a .result))
-spacious c =
-    let d = c .before .before .before in
-    let a = d .before .before .before .before .before .before .before .args in
-    room-done 3 (length (now (a .result))) _
-    (sym (ap (roomAnswer 3 (length (now (a .result)))) (d .decipher-words .ensures)) ∙ sym (c .before .before .room .ensures) ∙ c .enum-told3 .given .1)
-
-wiring-requires : tie.Need-wiring-requires
-wiring-requires c κs = search needs
+decipher-size-requires : tie.Need-decipher-size-requires
+decipher-size-requires c κs = search needs
 
 enum-told : tie.Need-enum-told
 enum-told c = search needs
@@ -47,12 +39,9 @@ returns c =
     let w = c .before .before in
     let a = w .before .before .before .before .args in
     record {
-      answered = refused-early _ _ _ _ _ (w .wiring .ensures) (c .enum-told2 .given .1);
+      answered = refused-early _ _ _ _ _ (size-answer _ _ (w .decipher-size .ensures)) (c .enum-told2 .given .1);
       written = kept _ (now (a .result)) (c .enum-told2 .given .1);
     }
-
-decipher-words-requires : tie.Need-decipher-words-requires
-decipher-words-requires c κs = lent c
 
 room-requires : tie.Need-room-requires
 room-requires c κs = search needs
@@ -66,17 +55,16 @@ enum-told-4 c = search needs
 returns-2 : tie.Need-returns-2
 returns-2 c =
     let r = c .before .before in
-    let d = r .before in
-    let a = d .before .before .before .before .before .before .before .args in
+    let a = r .before .before .before .before .before .before .before .args in
     record {
-      answered = judged _ _ _ _ _ (accepted (d .before)) (r .room .ensures ∙ ap (roomAnswer 3 (length (now (a .result)))) (d .decipher-words .ensures));
+      answered = judged _ _ _ _ _ (accepted (r .before)) (due r);
       written = kept _ (now (a .result)) (c .enum-told4 .given .1);
     }
 
 put-decipher-requires : tie.Need-put-decipher-requires
 put-decipher-requires c κs =
-    let d = c .before .before .before .before in
-    (lent (d .before), spacious (c .before))
+    let r = c .before .before .before in
+    (wiring-lent _ _ _ _ (accepted (r .before)), room-done 3 _ _ (sym (due r) ∙ c .before .enum-told3 .given .1))
 
 same-length : tie.Need-same-length
 same-length c = search needs
@@ -85,10 +73,9 @@ returns-3 : tie.Need-returns-3
 returns-3 c =
     let k = c .before .before in
     let t = k .before .before in
-    let d = t .before .before .before in
-    let a = d .before .before .before .before .before .before .before .args in
+    let r = t .before .before in
     record {
-      answered = sym (t .enum-told3 .given .1) ∙ judged _ _ _ _ _ (accepted (d .before)) (t .before .before .room .ensures ∙ ap (roomAnswer 3 (length (now (a .result)))) (d .decipher-words .ensures));
+      answered = sym (t .enum-told3 .given .1) ∙ judged _ _ _ _ _ (accepted (r .before)) (due r);
       written = k .put-decipher .ensures ∙ made _ _ refl;
     }
 
@@ -96,11 +83,10 @@ pub emit-decipher-spec : {M : Type 1} → statement M
 emit-decipher-spec =
     tie.close
     (tie.spec
-    wiring-requires
+    decipher-size-requires
     enum-told
     enum-told-2
     returns
-    decipher-words-requires
     room-requires
     enum-told-3
     enum-told-4

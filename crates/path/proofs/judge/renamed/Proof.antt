@@ -1,9 +1,8 @@
-use mathlib.Core.Path.{_≡_}
 use borrow.Author.Tests.{eq-eqb, ne-eqb}
 use Rattle.path.specs.Steps.{renamedTo}
 use borrow.Author.Needs.{needs}
-use Rattle.path.proofs.renamed.Statement.{statement}
-use Rattle.path.proofs.renamed.Tie as tie
+use Rattle.path.proofs.judge.renamed.Statement.{statement}
+use Rattle.path.proofs.judge.renamed.Tie as tie
 
 enum-told : tie.Need-enum-told
 enum-told c = search needs

@@ -1,12 +1,11 @@
 use mathlib.Core.Path.{_≡_, refl, sym, _∙_}
 use Prim.Native.Nat.{_+_, _-_, _≤_}
 use native.Mathlib.Omega.{arith}
-use borrow.Author.Needs.{needs}
 use lib.ListN.{length, drop, length-set}
 use lib.Seq.{sets}
 use Rattle.emit.proofs.Puts.{copy-turn, copy-end}
-use Rattle.path.proofs.put_bytes.Statement.{statement}
-use Rattle.path.proofs.put_bytes.Tie as tie
+use Rattle.path.proofs.write.put_bytes.Statement.{statement}
+use Rattle.path.proofs.write.put_bytes.Tie as tie
 
 abbrev Inv-loop : tie.InvT-loop
 Inv-loop out₀ at from i₀ j₀ out i j = (sets out i (drop j from) ≡ sets out₀ at from) × (length out ≡ length out₀) × (i ≡ at + j) × (j ≤ length from)
