@@ -1,7 +1,16 @@
--- What the walk over the draws is lent.
-use Prim.Native.Nat.{ℕ, _+_, _<_, _≤_}
+-- What a caller lends for a row, and what the walk over the draws is lent.
+use Prim.Native.Nat.{ℕ, _+_, _-_, _<_, _≤_}
+use mathlib.Core.Path.{_≡_}
 use mathlib.Core.List.{List}
 use lib.ListN.{length, getD}
+use Rattle.instance.specs.Table.{keyBits, rowBits}
+
+-- Document 01, "Choice from draws": instances 1 to 5, n draws, draw(i) below N - i.
+pub record Drawn (inst : ℕ) (draws : List ℕ) : Type 0 where
+  pub least : 1 ≤ inst
+  pub most : inst ≤ 5
+  pub count : length draws ≡ rowBits inst
+  pub low : (i : ℕ) → i < length draws → getD draws i 0 < keyBits inst - i
 
 -- there are at most N draws, and each one's place is one of N
 pub record DrawsFit (N : ℕ) (draws : List ℕ) : Type 0 where

@@ -1,7 +1,7 @@
--- What Done tells of a cipher call.
-use Prim.Native.Nat.{ℕ, zero, suc, _*_, _<_, _≤_}
+-- What gives Done of a cipher call, and what Done tells.
+use Prim.Native.Nat.{ℕ, _+_, _*_, _<_, _≤_}
 use mathlib.Core.Path.{_≡_, refl, ap, _∙_}
-use mathlib.Core.List.{List, [], _∷_}
+use mathlib.Core.List.{List}
 use native.Mathlib.Nat.{mul-zero}
 use native.Mathlib.Omega.{arith}
 use lib.ListN.{length, getD}
@@ -9,11 +9,14 @@ use borrow.Author.Tests.{ne-eqb}
 use Rattle.answer.specs.declared.Answer.the-variants.{Done}
 use Rattle.answer.specs.Answers.{_▹_, refuse}
 use Rattle.answer.specs.First.{firstFrom}
-use Rattle.answer.proofs.Rows.{first-done, then-done, one-of, two-of, three-of}
-use Rattle.answer.proofs.Search.{bits-done, bits-within}
+use Rattle.answer.specs.Bits.{bitsAnswer}
+use Rattle.answer.proofs.Rows.{both, first-done, then-done, one-of, two-of, three-of}
+use Rattle.answer.proofs.Search.{bits-done, done-bits, bits-within}
 use Rattle.instance.specs.Table.{sizesOf, keyBits, rowBits, whiteBits}
-use Rattle.instance.specs.Judging.{lengthAnswer, firstAnswer, rowsAnswer, whiteAnswer, roomAnswer}
-use Rattle.instance.proofs.Judged.{row-small, numbers-done, length-done, room-done, rows-done}
+use Rattle.instance.specs.Judging.{numbersAnswer, lengthAnswer, firstAnswer, rowsAnswer, whiteAnswer, roomAnswer}
+use Rattle.instance.specs.Wired.{Wired, Bits, Keyed}
+use Rattle.instance.proofs.Judged.{row-small, length-done, room-done}
+use Rattle.instance.proofs.Accepted.{done-length, done-room, wired-numbers, wired-rows, wired-whitening, done-wired}
 use Rattle.cipher.specs.Judging.{wiringLengths, wiringAnswer, keystreamAnswer, encipherAnswer}
 use Rattle.cipher.specs.Rows.{Rows, streamBit}
 use Rattle.cipher.specs.Cipher.{keystreamOf}
@@ -21,55 +24,96 @@ use Rattle.filter.specs.Filter.{tab}
 use Rattle.kreyvium.specs.Kreyvium.{streamOf}
 use Rattle.cipher.specs.Lent.{Lent}
 
-pub keystream-lent : (inst m : ℕ) (key idx wh : List ℕ) (n : ℕ) → keystreamAnswer inst m key idx wh n ≡ Done → Lent inst m key idx wh × (m ≤ n)
-unfolding keystreamAnswer wiringLengths wiringAnswer
-keystream-lent inst m key idx wh n e =
+-- 5, 6, 7 and 8 on a wiring and the room for m bits
+wiring-accepted : (l inst m : ℕ) (idx wh : List ℕ) (n : ℕ) → Wired inst m idx wh → m ≤ n → wiringAnswer l inst m idx wh n ≡ Done
+unfolding wiringAnswer
+wiring-accepted l inst m idx wh n w h =
+    both (wired-rows inst m idx wh w l) (both (wired-whitening inst m idx wh w (l + 1)) (done-room (l + 2) n m h))
+
+lengths-accepted : (l inst m : ℕ) (idx wh : List ℕ) → Wired inst m idx wh → wiringLengths l inst m (length idx) (length wh) ≡ Done
+unfolding wiringLengths
+lengths-accepted l inst m idx wh w = both (done-length l _ _ (w .indices)) (done-length (l + 1) _ _ (w .whitening))
+
+-- What document 01 lets a caller lend is accepted, with room for the m bits.
+pub keystream-accepted : (inst m : ℕ) (key idx wh : List ℕ) (n : ℕ) → Wired inst m idx wh → Keyed inst key → m ≤ n
+    → keystreamAnswer inst m key idx wh n ≡ Done
+unfolding keystreamAnswer
+keystream-accepted inst m key idx wh n w k h =
+    both (wired-numbers inst m idx wh w)
+    (both (both (done-length 1 _ _ (k .size)) (lengths-accepted 2 inst m idx wh w))
+    (both (both (done-bits 1 key (k .bit)) (done-bits 3 wh (w .whiteBit))) (wiring-accepted 2 inst m idx wh n w h)))
+
+-- enciphering and deciphering
+pub encipher-accepted : (inst m : ℕ) (key rec idx wh : List ℕ) (n : ℕ) → Wired inst m idx wh → Keyed inst key → Bits m rec → m ≤ n
+    → encipherAnswer inst m key rec idx wh n ≡ Done
+unfolding encipherAnswer
+encipher-accepted inst m key rec idx wh n w k r h =
+    both (wired-numbers inst m idx wh w)
+    (both (both (done-length 1 _ _ (k .size)) (both (done-length 2 _ _ (r .size)) (lengths-accepted 3 inst m idx wh w)))
+    (both (both (done-bits 1 key (k .bit)) (both (done-bits 2 rec (r .bit)) (done-bits 4 wh (w .whiteBit))))
+    (wiring-accepted 3 inst m idx wh n w h)))
+
+-- And nothing else is.
+wiring-wired : (l inst m : ℕ) (idx wh : List ℕ) (n : ℕ) → numbersAnswer inst m ≡ Done → wiringLengths l inst m (length idx) (length wh) ≡ Done
+    → bitsAnswer (l + 1) wh ≡ Done → wiringAnswer l inst m idx wh n ≡ Done → Wired inst m idx wh × (m ≤ n)
+unfolding wiringLengths wiringAnswer
+wiring-wired l inst m idx wh n k s b w = (
+  done-wired inst m idx wh l (l + 1) k (first-done _ _ s) (then-done _ _ s) b (one-of _ _ _ w) (two-of _ _ _ w),
+  room-done (l + 2) n m (three-of _ _ _ w),
+)
+
+pub keystream-wired : (inst m : ℕ) (key idx wh : List ℕ) (n : ℕ) → keystreamAnswer inst m key idx wh n ≡ Done
+    → Wired inst m idx wh × Keyed inst key × (m ≤ n)
+unfolding keystreamAnswer
+keystream-wired inst m key idx wh n e =
     let e1 = then-done _ _ e in
     let e2 = then-done _ _ e1 in
-    let w = then-done _ _ e2 in
-    let k = numbers-done inst m (first-done _ _ e) in
     let l = first-done _ _ e1 in
-    let b = first-done _ _ e2 in (
-      record {
-        least = k .0 .0;
-        most = k .0 .1;
-        few = k .1 .1;
-        keyLength = length-done 1 _ _ (one-of _ _ _ l);
-        indices = length-done 2 _ _ (two-of _ _ _ l);
-        whitening = length-done 3 _ _ (three-of _ _ _ l);
-        keyBit = bits-done 1 key (first-done _ _ b);
-        whiteBit = bits-done 3 wh (then-done _ _ b);
-        below = rows-done 2 _ _ idx (one-of _ _ _ w);
-      },
-      room-done 4 n m (three-of _ _ _ w),
+    let b = first-done _ _ e2 in
+    let w = wiring-wired 2 inst m idx wh n (first-done _ _ e) (then-done _ _ l) (then-done _ _ b) (then-done _ _ e2) in
+    (w .0, record { size = length-done 1 _ _ (first-done _ _ l); bit = bits-done 1 key (first-done _ _ b) }, w .1)
+
+pub encipher-wired : (inst m : ℕ) (key rec idx wh : List ℕ) (n : ℕ) → encipherAnswer inst m key rec idx wh n ≡ Done
+    → Wired inst m idx wh × Keyed inst key × Bits m rec × (m ≤ n)
+unfolding encipherAnswer
+encipher-wired inst m key rec idx wh n e =
+    let e1 = then-done _ _ e in
+    let e2 = then-done _ _ e1 in
+    let l = first-done _ _ e1 in
+    let b = first-done _ _ e2 in
+    let w = wiring-wired 3 inst m idx wh n (first-done _ _ e) (three-of _ _ _ l) (three-of _ _ _ b) (then-done _ _ e2) in (
+      w .0,
+      record { size = length-done 1 _ _ (one-of _ _ _ l); bit = bits-done 1 key (one-of _ _ _ b) },
+      record { size = length-done 2 _ _ (two-of _ _ _ l); bit = bits-done 2 rec (two-of _ _ _ b) },
+      w .1,
     )
+
+-- ---- for the writers of the keystream
+
+lent-of : (inst m : ℕ) (key idx wh : List ℕ) → Wired inst m idx wh → Keyed inst key → Lent inst m key idx wh
+lent-of inst m key idx wh w k =
+    record {
+      least = w .least;
+      most = w .most;
+      few = w .few;
+      keyLength = k .size;
+      indices = w .indices;
+      whitening = w .whitening;
+      keyBit = k .bit;
+      whiteBit = w .whiteBit;
+      below = w .below;
+    }
+
+pub keystream-lent : (inst m : ℕ) (key idx wh : List ℕ) (n : ℕ) → keystreamAnswer inst m key idx wh n ≡ Done → Lent inst m key idx wh × (m ≤ n)
+keystream-lent inst m key idx wh n e =
+    let w = keystream-wired inst m key idx wh n e in
+    (lent-of inst m key idx wh (w .0) (w .1), w .2)
 
 pub encipher-lent : (inst m : ℕ) (key rec idx wh : List ℕ) (n : ℕ) → encipherAnswer inst m key rec idx wh n ≡ Done
     → Lent inst m key idx wh × (m ≤ n) × (length rec ≡ m) × ((k : ℕ) → k < length rec → getD rec k 0 ≤ 1)
-unfolding encipherAnswer wiringLengths wiringAnswer
 encipher-lent inst m key rec idx wh n e =
-    let e1 = then-done _ _ e in
-    let e2 = then-done _ _ e1 in
-    let w = then-done _ _ e2 in
-    let k = numbers-done inst m (first-done _ _ e) in
-    let l = first-done _ _ e1 in
-    let l1 = then-done _ _ l in
-    let b = first-done _ _ e2 in (
-      record {
-        least = k .0 .0;
-        most = k .0 .1;
-        few = k .1 .1;
-        keyLength = length-done 1 _ _ (first-done _ _ l);
-        indices = length-done 3 _ _ (two-of _ _ _ l1);
-        whitening = length-done 4 _ _ (three-of _ _ _ l1);
-        keyBit = bits-done 1 key (one-of _ _ _ b);
-        whiteBit = bits-done 4 wh (three-of _ _ _ b);
-        below = rows-done 3 _ _ idx (one-of _ _ _ w);
-      },
-      room-done 5 n m (three-of _ _ _ w),
-      length-done 2 _ _ (one-of _ _ _ l1),
-      bits-done 2 rec (two-of _ _ _ b),
-    )
+    let w = encipher-wired inst m key rec idx wh n e in
+    (lent-of inst m key idx wh (w .0) (w .1), w .3, w .2 .size, w .2 .bit)
 
 -- the rows of instances 1 to 5
 pub rows-lent : (inst m : ℕ) (key idx wh : List ℕ) → Lent inst m key idx wh → (inst ≡ 6 → ⊥) → Rows inst key idx wh 1394 m

@@ -1,8 +1,9 @@
 pub mod Decides
-pub mod Metering
+pub mod Accepted
 pub mod Ciphering
 pub mod Published
 pub mod Scoring
+pub mod Metering
 pub mod Edges
 pub mod Replies
 pub mod Frames

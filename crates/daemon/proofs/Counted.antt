@@ -91,14 +91,6 @@ pub as-cipher : (m : ℕ) (key rec iv out : List ℕ) {r : ℕ} {out′ : List �
     → Ciphered 6 m key rec [] iv out (encipherAnswer 6 m key rec [] iv (length out)) out′
 as-cipher m key rec iv out x = record { answered = refl; written = x .written ∙ sym (kreyvium-same m key rec iv out) }
 
-counted-done : (a : Answer) → withoutIndices a ≡ Done → a ≡ Done
-unfolding withoutIndices
-counted-done Done e = refl
-counted-done (Refused n l p) e = cc
-
-pub accepted-cipher : (m : ℕ) (key rec iv : List ℕ) (n : ℕ) → kreyviumAnswer m key rec iv n ≡ Done → encipherAnswer 6 m key rec [] iv n ≡ Done
-accepted-cipher m key rec iv n e = counted-done _ (kreyvium-counted m key rec iv n ∙ e)
-
 pub cipher-accepted : (m : ℕ) (key rec iv : List ℕ) (n : ℕ) → encipherAnswer 6 m key rec [] iv n ≡ Done → kreyviumAnswer m key rec iv n ≡ Done
 unfolding withoutIndices
 cipher-accepted m key rec iv n e = sym (kreyvium-counted m key rec iv n) ∙ ap withoutIndices e

@@ -1,4 +1,4 @@
--- What Done tells of emit_decipher.
+-- What gives Done of emit_decipher, and what Done tells.
 use Prim.Native.Nat.{ℕ, _+_, _*_, _≤_}
 use mathlib.Core.Bool.{Bool, true, false}
 use mathlib.Core.Path.{_≡_, refl, sym, ap, _∙_}
@@ -9,13 +9,15 @@ use lib.ListN.{length}
 use borrow.Author.Tests.{eq-eqb, ne-eqb, eqb-true, eqb-false}
 use Rattle.answer.specs.declared.Answer.{Answer}
 use Rattle.answer.specs.declared.Answer.the-variants.{Done, Refused}
-use Rattle.answer.proofs.Rows.{first-done, then-done, stop, pass}
-use Rattle.answer.proofs.Search.{bits-done}
+use Rattle.answer.proofs.Rows.{both, first-done, then-done, stop, pass}
+use Rattle.answer.proofs.Search.{done-bits}
 use Rattle.netlist.specs.Net.{Net}
 use Rattle.netlist.specs.Words.{words}
 use Rattle.instance.specs.Table.{rowBits, whiteBits}
 use Rattle.instance.specs.Judging.{roomAnswer}
-use Rattle.instance.proofs.Judged.{numbers-done, length-done, room-done, rows-done}
+use Rattle.instance.specs.Wired.{Wired}
+use Rattle.instance.proofs.Judged.{room-done}
+use Rattle.instance.proofs.Accepted.{done-length, done-room, wired-numbers, wired-rows, wired-whitening, done-wired}
 use Rattle.wiring.specs.Exp.{chain}
 use Rattle.wiring.specs.Decipher.{rowsNet}
 use Rattle.rounds.specs.Gates.{kreyviumNet}
@@ -27,28 +29,50 @@ use Rattle.emit.specs.Lent.{Lent}
 use Rattle.emit.specs.Rows.{Wiring}
 use Rattle.emit.proofs.Puts.{words-length}
 
-pub wiring-lent : (inst m : ℕ) (idx wh : List ℕ) → wiringAnswer inst m idx wh ≡ Done → Lent inst m idx wh
+-- What document 01 lets a caller lend is accepted, with room for the netlist's words.
+pub wired-accepted : (inst m : ℕ) (idx wh : List ℕ) → Wired inst m idx wh → wiringAnswer inst m idx wh ≡ Done
 unfolding wiringAnswer
-wiring-lent inst m idx wh e =
-    let k = numbers-done inst m (first-done _ _ e) in
+wired-accepted inst m idx wh w =
+    both (wired-numbers inst m idx wh w)
+    (both (both (done-length 1 _ _ (w .indices)) (done-length 2 _ _ (w .whitening)))
+    (both (done-bits 2 wh (w .whiteBit)) (both (wired-rows inst m idx wh w 1) (wired-whitening inst m idx wh w 2))))
+
+pub decipher-accepted : (inst m : ℕ) (idx wh : List ℕ) (n : ℕ) → Wired inst m idx wh → length (words (decipherNet inst m idx wh)) ≤ n
+    → decipherAnswer inst m idx wh n ≡ Done
+unfolding decipherAnswer
+decipher-accepted inst m idx wh n w h = both (wired-accepted inst m idx wh w) (done-room 3 n _ h)
+
+-- And nothing else is.
+pub wiring-wired : (inst m : ℕ) (idx wh : List ℕ) → wiringAnswer inst m idx wh ≡ Done → Wired inst m idx wh
+unfolding wiringAnswer
+wiring-wired inst m idx wh e =
     let e1 = then-done _ _ e in
     let l = first-done _ _ e1 in
     let e2 = then-done _ _ e1 in
+    let r = then-done _ _ e2 in
+    done-wired inst m idx wh 1 2 (first-done _ _ e) (first-done _ _ l) (then-done _ _ l) (first-done _ _ e2) (first-done _ _ r) (then-done _ _ r)
+
+pub decipher-wired : (inst m : ℕ) (idx wh : List ℕ) (n : ℕ) → decipherAnswer inst m idx wh n ≡ Done
+    → Wired inst m idx wh × (length (words (decipherNet inst m idx wh)) ≤ n)
+unfolding decipherAnswer
+decipher-wired inst m idx wh n e = (wiring-wired inst m idx wh (first-done _ _ e), room-done 3 n _ (then-done _ _ e))
+
+-- For the writers of the netlist.
+pub lent-of : (inst m : ℕ) (idx wh : List ℕ) → Wired inst m idx wh → Lent inst m idx wh
+lent-of inst m idx wh w =
     record {
-      least = k .0 .0;
-      most = k .0 .1;
-      some = k .1 .0;
-      few = k .1 .1;
-      indices = length-done 1 _ _ (first-done _ _ l);
-      whitening = length-done 2 _ _ (then-done _ _ l);
-      bits = bits-done 2 wh (first-done _ _ e2);
-      below = rows-done 1 _ _ idx (first-done _ _ (then-done _ _ e2));
+      least = w .least;
+      most = w .most;
+      some = w .some;
+      few = w .few;
+      indices = w .indices;
+      whitening = w .whitening;
+      bits = w .whiteBit;
+      below = w .below;
     }
 
-pub decipher-lent : (inst m : ℕ) (idx wh : List ℕ) (n : ℕ) → decipherAnswer inst m idx wh n ≡ Done
-    → Lent inst m idx wh × (length (words (decipherNet inst m idx wh)) ≤ n)
-unfolding decipherAnswer
-decipher-lent inst m idx wh n e = (wiring-lent inst m idx wh (first-done _ _ e), room-done 3 n _ (then-done _ _ e))
+pub wiring-lent : (inst m : ℕ) (idx wh : List ℕ) → wiringAnswer inst m idx wh ≡ Done → Lent inst m idx wh
+wiring-lent inst m idx wh e = lent-of inst m idx wh (wiring-wired inst m idx wh e)
 
 -- for the call: a refusal of the wiring, and what is answered once it is accepted
 pub refused-early : (inst m : ℕ) (idx wh : List ℕ) (n : ℕ) {r : Answer} {x y z : ℕ} → r ≡ wiringAnswer inst m idx wh → r ≡ Refused x y z

@@ -1,0 +1,158 @@
+-- The judges of numbers, lengths, rows and whitening accept a wiring exactly if it is what document 01 lets a caller lend.
+use Prim.Native.Nat.{ℕ, zero, suc, _+_, _-_, _*_, _/_, _%_, _<_, _≤_}
+use mathlib.Core.Bool.{Bool, true, false, not}
+use mathlib.Core.Path.{_≡_, refl, sym, ap, _∙_}
+use mathlib.Core.List.{List, []}
+use native.Mathlib.Decide.{decLe}
+use native.Mathlib.Nat.{mul-zero, mod-lt, div-add-mod', lt-of-mul-lt-mul-right}
+use native.Mathlib.Omega.{arith}
+use lib.Arith.{digits-lt, digits-mod}
+use lib.Dec.{ltb}
+use lib.ListN.{length, getD}
+use borrow.Author.Tests.{eq-eqb, eqb-false, ne-eqb, le-ltb, ltb-false, lt-leb}
+use Rattle.answer.specs.declared.Answer.the-variants.{Done}
+use Rattle.answer.specs.Bits.{bitsAnswer}
+use Rattle.answer.specs.Choose.{choose}
+use Rattle.answer.proofs.Rows.{both, then-done, refuse-not}
+use Rattle.answer.proofs.Search.{first-none, some-none, none-below, bits-done}
+use Rattle.instance.specs.Table.{sizesOf, keyBits, rowBits, whiteBits}
+use Rattle.instance.specs.Judging.{outside, numbersAnswer, lengthAnswer, roomAnswer, firstAnswer, pastKey, sameFrom, repeatsInRow, rowsAnswer, isOne, whiteAnswer}
+use Rattle.instance.specs.Wired.{Wired, Bits}
+use Rattle.instance.proofs.Judged.{first-go, first-done-at, length-done, numbers-done, rows-done, none-one}
+
+-- ---- what gives Done
+
+pub not-outside : (lo hi x : ℕ) → lo ≤ x → x ≤ hi → outside lo hi x ≡ false
+not-outside lo hi x a b = rw (le-ltb x lo a, le-ltb hi x b)
+
+pub done-numbers : (inst m : ℕ) → 1 ≤ inst → inst ≤ 6 → 1 ≤ m → m ≤ 64 → numbersAnswer inst m ≡ Done
+unfolding numbersAnswer
+done-numbers inst m a b c d = both (refuse-not 1 0 0 (not-outside 1 6 inst a b)) (refuse-not 2 0 0 (not-outside 1 64 m c d))
+
+pub done-length : (l len n : ℕ) → len ≡ n → lengthAnswer l len n ≡ Done
+unfolding lengthAnswer
+done-length l len n e = refuse-not 3 l len (ap not (eq-eqb len n e))
+
+pub done-room : (l len n : ℕ) → n ≤ len → roomAnswer l len n ≡ Done
+unfolding roomAnswer
+done-room l len n h = refuse-not 8 l len (le-ltb len n h)
+
+-- a list that fails a test at every place
+pub done-first : (n l : ℕ) (p : ℕ → Bool) (s : List ℕ) → ((k : ℕ) → k < length s → p k ≡ false) → firstAnswer n l p s ≡ Done
+done-first n l p s h = first-go n l p s (length s) (sym (first-none p (length s) h)) (omega arith)
+
+-- ---- rows of n, end to end: place j of row i is i * n + j
+
+-- the row and the place in it of place k of the list
+place-of : (m n k : ℕ) → k < m * n → (k / n * n + k % n ≡ k) × (k / n < m) × (k % n < n)
+place-of m zero k h = absurd (omega (arith, mul-zero m))
+place-of m (suc n) k h =
+    let e = div-add-mod' k (suc n) in
+    (e, lt-of-mul-lt-mul-right (suc n) (omega arith), mod-lt k (omega arith))
+
+module _ (l N n m : ℕ) (s : List ℕ) (size : length s ≡ m * n) where
+  abbrev Apart : Type 0
+  Apart = (i j k : ℕ) → i < m → j < n → k < n → getD s (i * n + j) 0 ≡ getD s (i * n + k) 0 → j ≡ k
+
+  pub done-rows : ((k : ℕ) → k < length s → getD s k 0 < N) → Apart → rowsAnswer l N n s ≡ Done
+  unfolding rowsAnswer pastKey repeatsInRow sameFrom
+  done-rows below apart =
+      both (done-first 5 l (pastKey N s) s (λ k h. lt-leb N (getD s k 0) (below k h)))
+      (done-first 6 l (repeatsInRow n s) s
+      (λ k h.
+      let p = place-of m n k (omega arith) in
+      some-none (sameFrom (k - k % n) s k) (k % n)
+      (λ j q. ne-eqb (getD s (k - k % n + j) 0) (getD s k 0)
+      (λ t.
+      let z : k - k % n ≡ k / n * n = omega (arith, p .0) in
+      let u : getD s (k / n * n + j) 0 ≡ getD s (k / n * n + k % n) 0 =
+      ap (λ (x : ℕ). getD s (x + j) 0) (sym z) ∙ t ∙ ap (λ (x : ℕ). getD s x 0) (sym (p .0)) in
+      omega (arith, apart (k / n) j (k % n) (p .1) (omega (arith, p .2)) (p .2) u)))))
+
+  -- what Done tells of two places of a row
+  earlier : rowsAnswer l N n s ≡ Done → (i j k : ℕ) → i < m → j < k → k < n → getD s (i * n + j) 0 ≡ getD s (i * n + k) 0 → ⊥
+  unfolding rowsAnswer repeatsInRow sameFrom
+  earlier e i j k hi hj hk t =
+      let at = i * n + k in
+      let r : at % n ≡ k = digits-mod i hk in
+      let z : at - at % n ≡ i * n = omega arith in
+      let h : at < length s = omega (arith, digits-lt hi hk) in
+      let f = first-done-at 6 l (repeatsInRow n s) s (then-done _ _ e) at h in
+      eqb-false _ _ (none-below (sameFrom (at - at % n) s at) (at % n) j f (omega arith))
+      (ap (λ (x : ℕ). getD s (x + j) 0) z ∙ t)
+
+  pub rows-apart : rowsAnswer l N n s ≡ Done → Apart
+  rows-apart e i j k hi hj hk t =
+      elim (decLe (j + 1) k) [
+        | yes q ↦ absurd (earlier e i j k hi (omega arith) hk t)
+        | no q ↦ elim (decLe (k + 1) j) [ yes p ↦ absurd (earlier e i k j hi (omega arith) hj (sym t)) | no p ↦ omega arith ]
+      ]
+
+-- ---- FLIP whitening
+
+pub done-whitening : (l inst : ℕ) (s : List ℕ) → (inst ≤ 2 → (k : ℕ) → k < length s → getD s k 0 ≡ 0) → whiteAnswer l inst s ≡ Done
+unfolding whiteAnswer
+done-whitening l inst s h = by (ltb 2 inst) refl
+  where
+    by : (b : Bool) → ltb 2 inst ≡ b → choose b Done (firstAnswer 7 l (isOne s) s) ≡ Done
+    by true e = refl
+    by false e = none-one l s (h (ltb-false 2 inst e))
+
+pub whitening-plain : (l inst : ℕ) (s : List ℕ) → whiteAnswer l inst s ≡ Done → ((k : ℕ) → k < length s → getD s k 0 ≤ 1)
+    → inst ≤ 2 → (k : ℕ) → k < length s → getD s k 0 ≡ 0
+unfolding whiteAnswer isOne
+whitening-plain l inst s e b h k q =
+    let f : firstAnswer 7 l (isOne s) s ≡ Done = rw (le-ltb 2 inst h) at e in
+    let z : getD s k 0 ≡ 1 → ⊥ = eqb-false _ _ (first-done-at 7 l (isOne s) s f k q) in
+    omega (arith, b k q)
+
+-- ---- a wiring
+
+-- The judges accept what may be lent, as whatever list l of a call.
+module _ (inst m : ℕ) (idx wh : List ℕ) (lent : Wired inst m idx wh) where
+  pub wired-numbers : numbersAnswer inst m ≡ Done
+  wired-numbers = done-numbers inst m (lent .least) (lent .most) (lent .some) (lent .few)
+
+  pub wired-rows : (l : ℕ) → rowsAnswer l (keyBits inst) (rowBits inst) idx ≡ Done
+  wired-rows l = done-rows l (keyBits inst) (rowBits inst) m idx (lent .indices) (lent .below) (lent .distinct)
+
+  pub wired-whitening : (l : ℕ) → whiteAnswer l inst wh ≡ Done
+  wired-whitening l = done-whitening l inst wh (lent .plain)
+
+-- And nothing else: i is the list of the indices, w that of the whitening.
+pub done-wired : (inst m : ℕ) (idx wh : List ℕ) (i w : ℕ) → numbersAnswer inst m ≡ Done
+    → lengthAnswer i (length idx) (m * rowBits inst) ≡ Done → lengthAnswer w (length wh) (whiteBits inst m) ≡ Done
+    → bitsAnswer w wh ≡ Done → rowsAnswer i (keyBits inst) (rowBits inst) idx ≡ Done → whiteAnswer w inst wh ≡ Done → Wired inst m idx wh
+done-wired inst m idx wh i w n e f b r p =
+    let k = numbers-done inst m n in
+    let size = length-done i _ _ e in
+    let bit = bits-done w wh b in
+    record {
+      least = k .0 .0;
+      most = k .0 .1;
+      some = k .1 .0;
+      few = k .1 .1;
+      indices = size;
+      whitening = length-done w _ _ f;
+      whiteBit = bit;
+      below = rows-done i _ _ idx r;
+      distinct = rows-apart i (keyBits inst) (rowBits inst) m idx size r;
+      plain = whitening-plain w inst wh p bit;
+    }
+
+-- Kreyvium's: no index, and 128 IV bits
+pub kreyvium-wired : (m : ℕ) (iv : List ℕ) → 1 ≤ m → m ≤ 64 → Bits 128 iv → Wired 6 m [] iv
+unfolding sizesOf whiteBits
+kreyvium-wired m iv a b v =
+    record {
+      least = omega arith;
+      most = omega arith;
+      some = a;
+      few = b;
+      indices = sym (mul-zero m);
+      whitening = v .size;
+      whiteBit = v .bit;
+      below = λ k h. absurd (omega arith);
+      distinct = λ i j k h q. absurd (omega arith);
+      plain = λ h. absurd (omega arith);
+    }
