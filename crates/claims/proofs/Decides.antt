@@ -5,6 +5,7 @@ use mathlib.Core.List.{List}
 use native.Mathlib.Omega.{arith}
 use lib.ListN.{length}
 use Rattle.answer.specs.declared.Answer.{Answer}
+use Rattle.answer.specs.Answers.{ifDone}
 use Rattle.answer.specs.Fronts.{left}
 use Rattle.netlist.specs.Net.{Net, depth, mults}
 use Rattle.netlist.specs.Words.{netOf}
@@ -13,7 +14,7 @@ use Rattle.evaluate.specs.Evaluate.{Evaluated}
 use Rattle.meter.specs.declared.Level.{Level}
 use Rattle.meter.specs.declared.Metered.{Metered}
 use Rattle.meter.specs.Levels.{levels, leftLevels}
-use Rattle.meter.specs.Meter.{ifDone, MeteredAs}
+use Rattle.meter.specs.Meter.{MeteredAs}
 use Rattle.glue.specs.Glue.{GluedAs}
 use Rattle.choice.specs.Choice.{Chosen}
 use Rattle.cipher.specs.Cipher.{Streamed, Ciphered}

@@ -8,7 +8,7 @@ use lib.ListN.{length, take}
 use borrow.Author.Tests.{le-ltb}
 use Rattle.answer.specs.declared.Answer.{Answer}
 use Rattle.answer.specs.declared.Answer.the-variants.{Done}
-use Rattle.answer.proofs.Rows.{both, refuse-not}
+use Rattle.answer.proofs.Rows.{both, refuse-not, told}
 use Rattle.netlist.specs.Net.{Net, depth, mults}
 use Rattle.netlist.specs.Words.{inputsOf, gatesOf, netOf}
 use Rattle.netlist.specs.Sound.{Sound}
@@ -18,7 +18,7 @@ use Rattle.instance.specs.Wired.{Wired}
 use Rattle.meter.specs.declared.Level.{Level}
 use Rattle.meter.specs.declared.Metered.{Metered}
 use Rattle.meter.specs.Levels.{levelCount}
-use Rattle.meter.specs.Meter.{depthsAnswer, levelsAnswer, meterAnswer, ifDone, MeteredAs}
+use Rattle.meter.specs.Meter.{depthsAnswer, levelsAnswer, meterAnswer, MeteredAs}
 use Rattle.glue.specs.Glue.{gluedWords}
 use Rattle.glue.specs.Parts.{Fit}
 use Rattle.wiring.specs.Costs.{costOf}
@@ -47,15 +47,11 @@ module _ (net : List ℕ) (r : Metered) (s : Sound net) (m : MeterCall net r) wh
       m .outcome .answered
       ∙ both (both (sound-done 1 net s) (refuse-not _ _ _ (le-ltb _ _ (m .wires)))) (refuse-not _ _ _ (le-ltb _ _ (m .levels)))
 
-  given : (n : ℕ) → ifDone (r .answer) n ≡ n
-  unfolding ifDone
-  given n = rw meter-accepts
-
   pub depth-is : r .depth ≡ depth (netOf net)
-  depth-is = m .outcome .deep ∙ given _
+  depth-is = m .outcome .deep ∙ sym (told _ meter-accepts)
 
   pub mults-is : r .multiplications ≡ mults (netOf net)
-  mults-is = m .outcome .multiplied ∙ given _
+  mults-is = m .outcome .multiplied ∙ sym (told _ meter-accepts)
 
 pub glued-metered : (a b : List ℕ) (n : ℕ) {r s t : Metered} → Fit a b n
     → MeterCall a r → MeterCall b s → MeterCall (gluedWords a b) t

@@ -8,23 +8,14 @@ use borrow.Author.Tests.{ltb-false}
 use Rattle.answer.specs.declared.Answer.{Answer}
 use Rattle.answer.specs.declared.Answer.the-variants.{Done, Refused}
 use Rattle.answer.specs.Fronts.{over}
-use Rattle.answer.proofs.Rows.{first-done, then-done, refuse-done}
+use Rattle.answer.proofs.Rows.{first-done, then-done, refuse-done, untold, told}
 use Rattle.answer.proofs.Over.{length-over, kept, made}
 use Rattle.netlist.specs.Net.{at, depAlg, maxOf, depths}
 use Rattle.netlist.specs.Words.{inputsOf, gatesOf, outputsOf, gatePlace, netOf}
 use Rattle.netlist.proofs.Accepted.{done-sound}
-use Rattle.meter.specs.Meter.{depthsAnswer, ifDone}
+use Rattle.meter.specs.Meter.{depthsAnswer}
 use Rattle.meter.specs.Passes.{depthsTo, Lent, MeasuredAs}
 use Rattle.meter.proofs.Depths.{depths-length, depths-whole, top-level, outs-depth}
-
--- a number by its answer
-pub none : {r : Answer} {x y z : ℕ} (n : ℕ) → r ≡ Refused x y z → 0 ≡ ifDone r n
-unfolding ifDone
-none n e = rw e
-
-pub some : {r : Answer} (n : ℕ) → r ≡ Done → n ≡ ifDone r n
-unfolding ifDone
-some n e = rw e
 
 pub judged-lent : {net ds : List ℕ} {r : Answer} → r ≡ depthsAnswer net (length ds) → r ≡ Done → Lent net (inputsOf net) (gatesOf net) ds
 unfolding depthsAnswer
@@ -39,7 +30,7 @@ judged-lent {net} {ds} e d =
 -- For the depths: not judged done, or filled and looked through.
 pub unmeasured : {net ds : List ℕ} {r : Answer} {x y z : ℕ} → r ≡ depthsAnswer net (length ds) → r ≡ Refused x y z
     → MeasuredAs net ds (record { answer = r; depth = 0; levels = 0 }) ds
-unmeasured {net} {ds} e h = record { answered = e; deep = none _ h; tall = none _ h; filled = kept _ _ h }
+unmeasured {net} {ds} e h = record { answered = e; deep = untold _ h; tall = untold _ h; filled = kept _ _ h }
 
 module _ {net ds ds′ : List ℕ} (s : Lent net (inputsOf net) (gatesOf net) ds) (f : ds′ ≡ over (depthsTo net (gatesOf net)) ds) where
   pub long : length ds′ ≡ length ds
@@ -54,7 +45,7 @@ module _ {net ds ds′ : List ℕ} (s : Lent net (inputsOf net) (gatesOf net) ds
       let w : ds′ ≡ over (depths (netOf net)) ds = f ∙ ap (λ (l : List ℕ). over l ds) (depths-whole net) in
       record {
         answered = sym d ∙ e;
-        deep = h ∙ ap (λ (l : List ℕ). maxOf (map (at depAlg l) (drop (gatePlace (gatesOf net)) net))) w ∙ outs-depth net ds (s .sound) ∙ some _ refl;
-        tall = ap (λ (k : ℕ). k + 1) (t ∙ ap (λ (l : List ℕ). maxOf (take (inputsOf net + gatesOf net) l)) w) ∙ top-level net ds ∙ some _ refl;
+        deep = h ∙ ap (λ (l : List ℕ). maxOf (map (at depAlg l) (drop (gatePlace (gatesOf net)) net))) w ∙ outs-depth net ds (s .sound) ∙ told _ refl;
+        tall = ap (λ (k : ℕ). k + 1) (t ∙ ap (λ (l : List ℕ). maxOf (take (inputsOf net + gatesOf net) l)) w) ∙ top-level net ds ∙ told _ refl;
         filled = w ∙ made _ _ refl;
       }

@@ -8,7 +8,7 @@ use borrow.Author.Tests.{lt-ltb, le-ltb}
 use Rattle.answer.specs.declared.Answer.{Answer}
 use Rattle.answer.specs.declared.Answer.the-variants.{Done, Refused}
 use Rattle.answer.specs.Fronts.{over, left}
-use Rattle.answer.proofs.Rows.{stop, go, refuse-yes, refuse-not}
+use Rattle.answer.proofs.Rows.{stop, go, refuse-yes, refuse-not, untold, told}
 use Rattle.answer.proofs.Over.{over-at, length-over, made}
 use Rattle.netlist.specs.Net.{depths}
 use Rattle.netlist.specs.Words.{inputsOf, gatesOf, netOf}
@@ -21,7 +21,7 @@ use Rattle.meter.specs.Passes.{Lent, MeasuredAs}
 use Rattle.meter.specs.Counted.{noPlan, Countable, PlannedAs}
 use Rattle.meter.proofs.Depths.{depths-count, gate-level}
 use Rattle.meter.proofs.Levels.{kinds-mults, count-none, below-agree, none-over, levels-kept, levels-made}
-use Rattle.meter.proofs.Judged.{none, some, judged-lent}
+use Rattle.meter.proofs.Judged.{judged-lent}
 
 nothing-countable : (net ds : List ℕ) → Countable net ds 0 0
 nothing-countable net ds =
@@ -35,11 +35,11 @@ refused-plan {net} {ds} {ds′} {room} is h e f =
     subst (λ (q : Plan). PlannedAs net ds room q ds′) (sym is)
     record {
       answered = e;
-      deep = none _ h;
+      deep = untold _ h;
       filled = f;
       countable = nothing-countable net ds′;
       fits = omega arith;
-      multiply = sym (count-none net) ∙ none _ h;
+      multiply = sym (count-none net) ∙ untold _ h;
       counts = λ ls. none-over net ds′ ls ∙ levels-kept _ _ h;
     }
 
@@ -53,7 +53,7 @@ module _ {net ds : List ℕ} {p : Measured} {ds′ : List ℕ} (m : MeasuredAs n
 
   module _ (d : p .answer ≡ Done) where
     tall-is : p .levels ≡ levelCount (netOf net)
-    tall-is = m .tall ∙ sym (some _ d)
+    tall-is = m .tall ∙ sym (told _ d)
 
     pub roomless-plan : {room : ℕ} {q : Plan} → room < p .levels → q ≡ noPlan (Refused 8 3 room) → PlannedAs net ds room q ds′
     unfolding meterAnswer levelsAnswer
@@ -85,11 +85,11 @@ module _ {net ds : List ℕ} {p : Measured} {ds′ : List ℕ} (m : MeasuredAs n
     planned {room} l =
         record {
           answered = go (m .answered) d (sym (refuse-not _ _ _ (le-ltb room (levelCount (netOf net)) (omega (arith, tall-is)))));
-          deep = m .deep ∙ sym (some _ d) ∙ some _ refl;
+          deep = m .deep ∙ sym (told _ d) ∙ told _ refl;
           filled = fills;
           countable = subst (Countable net ds′ (gatesOf net)) (sym tall-is) all-countable;
           fits = l;
-          multiply = kinds-mults net ∙ some _ refl;
+          multiply = kinds-mults net ∙ told _ refl;
           counts = λ ls.
               ap (λ (c : ℕ). overLevels (levelsBelow net ds′ (gatesOf net) c) ls) tall-is
               ∙ ap (λ (f : List Level). overLevels f ls) (below-agree net ds′ (depths (netOf net)) (gatesOf net) (levelCount (netOf net)) depth-at)

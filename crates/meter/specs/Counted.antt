@@ -5,6 +5,7 @@ use mathlib.Core.List.{List}
 use lib.ListN.{length, getD, set}
 use lib.Dec.{eqb}
 use Rattle.answer.specs.declared.Answer.{Answer}
+use Rattle.answer.specs.Answers.{ifDone}
 use Rattle.answer.specs.Fronts.{left}
 use Rattle.netlist.specs.Net.{depths, depth, mults}
 use Rattle.netlist.specs.Words.{inputsOf, gatePlace, netOf}
@@ -13,7 +14,7 @@ use Rattle.meter.specs.declared.Level.{Level}
 use Rattle.meter.specs.declared.Plan.{Plan}
 use Rattle.meter.specs.declared.Spot.{Spot}
 use Rattle.meter.specs.Levels.{one, andKind, muxKind, kindCount, levels, levelsBelow, overLevels, leftLevels}
-use Rattle.meter.specs.Meter.{depthsAnswer, meterAnswer, ifDone}
+use Rattle.meter.specs.Meter.{depthsAnswer, meterAnswer}
 
 -- nothing to count after a refusal
 unfoldable pub noPlan : Answer → Plan

@@ -6,8 +6,7 @@ use mathlib.Core.List.{List}
 use lib.ListN.{length}
 use lib.Dec.{ltb}
 use Rattle.answer.specs.declared.Answer.{Answer}
-use Rattle.answer.specs.declared.Answer.the-variants.{Done, Refused}
-use Rattle.answer.specs.Answers.{_▹_, refuse}
+use Rattle.answer.specs.Answers.{_▹_, refuse, ifDone}
 use Rattle.answer.specs.Fronts.{left}
 use Rattle.netlist.specs.Net.{depths, depth, mults}
 use Rattle.netlist.specs.Words.{inputsOf, gatesOf, netOf}
@@ -26,11 +25,6 @@ levelsAnswer net l = refuse 8 3 l (ltb l (levelCount (netOf net)))
 
 unfoldable pub meterAnswer : List ℕ → ℕ → ℕ → Answer
 meterAnswer net d l = depthsAnswer net d ▹ levelsAnswer net l
-
--- a number that is 0 on a refusal
-unfoldable pub ifDone : Answer → ℕ → ℕ
-ifDone Done n = n
-ifDone (Refused number list place) n = 0
 
 -- What a call that was lent net, ds and ls returns, and what it leaves in the last two. The depths are filled even where
 -- only the level list is too short: document 01's one exception.

@@ -5,13 +5,14 @@ use mathlib.Core.List.{List}
 use lib.ListN.{length, replicate}
 use lib.Dec.{ltb}
 use Rattle.answer.specs.Choose.{choose}
+use Rattle.answer.specs.Answers.{ifDone}
 use Rattle.answer.specs.Fronts.{left}
 use Rattle.netlist.specs.Net.{run, depAlg, depths, depth}
 use Rattle.netlist.specs.Words.{headerWords, inputsOf, gatesOf, gatesAt, netOf}
 use Rattle.netlist.specs.Sound.{Sound}
 use Rattle.meter.specs.declared.Measured.{Measured}
 use Rattle.meter.specs.Levels.{levelCount}
-use Rattle.meter.specs.Meter.{depthsAnswer, ifDone}
+use Rattle.meter.specs.Meter.{depthsAnswer}
 
 -- the largest of the depths x, y and z of the operand words of a gate of kind k, of those that it uses
 unfoldable pub deepest : ℕ → ℕ → ℕ → ℕ → ℕ

@@ -11,11 +11,10 @@ use Rattle.answer.specs.declared.Answer.{Answer}
 use Rattle.answer.specs.declared.Answer.the-variants.{Done, Refused}
 use Rattle.answer.specs.Choose.{choose}
 use Rattle.answer.specs.Fronts.{over}
-use Rattle.answer.proofs.Rows.{first-done, refuse-done, refuse-not, both}
+use Rattle.answer.proofs.Rows.{first-done, refuse-done, refuse-not, both, untold, told}
 use Rattle.answer.proofs.Over.{kept, made, over-at, take-over}
 use Rattle.netlist.specs.Net.{depth, mults}
 use Rattle.netlist.specs.Words.{inputsOf, gatesOf, words}
-use Rattle.meter.proofs.Judged.{none, some}
 use Rattle.instance.specs.Judging.{roomAnswer}
 use Rattle.cells.specs.Cells.{thresholdNet}
 use Rattle.cells.proofs.Facts.{threshold-outputs}
@@ -106,7 +105,7 @@ pub keep-none : (size : ℕ) (text old : List ℕ) (r : Answer) {x y z : ℕ} �
 keep-none size text old r k e h =
     record {
       answered = e ∙ ap (roomAnswer 2 (length old)) (sym (length-take-le size text k));
-      sized = none _ h;
+      sized = untold _ h;
       written = kept _ _ h;
     }
 
@@ -120,7 +119,7 @@ keep-all size end text old new r k e h w =
     let l = length-take-le size text k in
     record {
       answered = sym h ∙ e ∙ ap (roomAnswer 2 (length old)) (sym l);
-      sized = omega (arith, w .past) ∙ some _ refl;
+      sized = omega (arith, w .past) ∙ told _ refl;
       written = wrote-front (record { fits = omega (arith, room-fits (length old) size r e h) }) w ∙ made _ _ refl;
     }
 
@@ -147,4 +146,4 @@ pub print-whole : (input old : List ℕ) (r : Printing) (new : List ℕ) → 131
 unfolding roomAnswer
 print-whole input old r new h p =
     let e = p .answered ∙ refuse-not 8 2 (length old) (le-ltb (length old) _ (omega (arith, printed-fits input))) in
-    (e, p .sized ∙ sym (some _ e), p .written ∙ sym (made _ _ e))
+    (e, p .sized ∙ sym (told _ e), p .written ∙ sym (made _ _ e))
