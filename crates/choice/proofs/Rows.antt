@@ -1,21 +1,20 @@
--- Rows that were chosen from accepted draws, end to end: the judges of rows accept them.
-use Prim.Native.Nat.{ℕ, zero, suc, _+_, _-_, _*_, _/_, _%_, _<_, _≤_}
-use mathlib.Core.Bool.{Bool, false}
+-- Rows that were chosen from accepted draws, end to end: the judges of rows accept them, and they are a wiring that may be
+-- lent.
+use Prim.Native.Nat.{ℕ, zero, suc, _+_, _*_, _/_, _%_, _<_, _≤_}
 use mathlib.Core.Path.{_≡_, sym, ap, _∙_}
 use mathlib.Core.Logic.{⊎-elim}
 use mathlib.Core.List.{List, _++_}
-use native.Mathlib.Nat.{mul-zero, suc-mul, mod-lt, div-add-mod', lt-of-mul-lt-mul-right, eq-or-lt-of-le}
+use native.Mathlib.Nat.{suc-mul, eq-or-lt-of-le}
 use native.Mathlib.Omega.{arith}
-use borrow.Author.Tests.{le-ltb, lt-leb, ne-eqb}
+use borrow.Author.Tests.{ne-eqb}
 use lib.Arith.{digits-lt}
 use lib.ListN.{length, getD, length-append, List·getD-append}
 use lib.Seq.{getD-append-add}
 use Rattle.answer.specs.declared.Answer.the-variants.{Done}
-use Rattle.answer.specs.First.{first}
-use Rattle.answer.proofs.Rows.{both, refuse-not}
-use Rattle.answer.proofs.Search.{first-none, some-none}
-use Rattle.instance.specs.Table.{keyBits, rowBits}
-use Rattle.instance.specs.Judging.{firstAnswer, pastKey, sameFrom, repeatsInRow, rowsAnswer}
+use Rattle.instance.specs.Table.{keyBits, rowBits, whiteBits}
+use Rattle.instance.specs.Judging.{rowsAnswer}
+use Rattle.instance.specs.Wired.{Wired, Bits}
+use Rattle.instance.proofs.Accepted.{place-of, done-rows}
 use Rattle.choice.specs.Choice.{rowOf, rowsOf, chooseAnswer}
 use Rattle.choice.proofs.Distinct.{Distinct, row-distinct, row-length}
 
@@ -24,35 +23,6 @@ pub record Rowed (N n m : ℕ) (s : List ℕ) : Type 0 where
   pub indices : length s ≡ m * n
   pub below : (k : ℕ) → k < length s → getD s k 0 < N
   pub distinct : (i j k : ℕ) → i < m → j < n → k < n → getD s (i * n + j) 0 ≡ getD s (i * n + k) 0 → j ≡ k
-
--- the row and the place in it of place k
-place-of : (m n k : ℕ) → k < m * n → (k / n * n + k % n ≡ k) × (k / n < m) × (k % n < n)
-place-of m zero k h = absurd (omega (arith, mul-zero m))
-place-of m (suc n) k h =
-    let e = div-add-mod' k (suc n) in
-    (e, lt-of-mul-lt-mul-right (suc n) (omega arith), mod-lt k (omega arith))
-
--- a list that fails a test at every place passes for the test's number
-all-pass : (n l : ℕ) (p : ℕ → Bool) (s : List ℕ) → ((k : ℕ) → k < length s → p k ≡ false) → firstAnswer n l p s ≡ Done
-unfolding firstAnswer
-all-pass n l p s h =
-    let all : length s ≤ first p (length s) = omega (arith, first-none p (length s) h) in
-    refuse-not n l _ (le-ltb _ _ all)
-
-rowed-accepted : (l N n m : ℕ) (s : List ℕ) → Rowed N n m s → rowsAnswer l N n s ≡ Done
-unfolding rowsAnswer pastKey repeatsInRow sameFrom
-rowed-accepted l N n m s r =
-    both (all-pass 5 l (pastKey N s) s (λ k h. lt-leb N (getD s k 0) (r .below k h)))
-    (all-pass 6 l (repeatsInRow n s) s
-    (λ k h.
-    let p = place-of m n k (omega (arith, r .indices)) in
-    some-none (sameFrom (k - k % n) s k) (k % n)
-    (λ j q. ne-eqb (getD s (k - k % n + j) 0) (getD s k 0)
-    (λ e.
-    let z : k - k % n ≡ k / n * n = omega (arith, p .0) in
-    let u : getD s (k / n * n + j) 0 ≡ getD s (k / n * n + k % n) 0 =
-    ap (λ (x : ℕ). getD s (x + j) 0) (sym z) ∙ e ∙ ap (λ (x : ℕ). getD s x 0) (sym (p .0)) in
-    omega (arith, r .distinct (k / n) j (k % n) (p .1) (omega (arith, p .2)) (p .2) u)))))
 
 module _ (inst : ℕ) (draws : ℕ → List ℕ) (room : ℕ → ℕ) where
   abbrev n : ℕ
@@ -102,7 +72,28 @@ module _ (inst : ℕ) (draws : ℕ → List ℕ) (room : ℕ → ℕ) where
 
     -- The row judges of a cipher call, as whose list l they are handed on, accept them.
     pub rows-accepted : (l : ℕ) → rowsAnswer l (keyBits inst) n (rowsOf inst draws m) ≡ Done
-    rows-accepted l = rowed-accepted l (keyBits inst) n m (rowsOf inst draws m) rows-rowed
+    rows-accepted l =
+        let r = rows-rowed in
+        done-rows l (keyBits inst) n m (rowsOf inst draws m) (r .indices) (r .below) (r .distinct)
+
+    -- With a whitening bit for each index, all 0 for FLIP, they are a wiring that may be lent.
+    pub rows-wired : 1 ≤ inst → inst ≤ 5 → 1 ≤ m → m ≤ 64 → (wh : List ℕ) → Bits (m * n) wh → (inst ≤ 2 → (k : ℕ) → k < length wh → getD wh k 0 ≡ 0)
+        → Wired inst m (rowsOf inst draws m) wh
+    unfolding whiteBits
+    rows-wired least most some few wh bits plain =
+        let r = rows-rowed in
+        record {
+          least = least;
+          most = omega arith;
+          some = some;
+          few = few;
+          indices = r .indices;
+          whitening = rw (ne-eqb inst 6 (λ e. omega arith)) (bits .size);
+          whiteBit = bits .bit;
+          below = r .below;
+          distinct = r .distinct;
+          plain = plain;
+        }
 
 -- one row
 pub row-accepted : (l inst : ℕ) (draws : List ℕ) (room : ℕ) → chooseAnswer inst draws room ≡ Done

@@ -4,13 +4,14 @@ use Prim.Native.Nat.{ℕ, _+_, _*_, _%_, _<_, _≤_}
 use mathlib.Core.Path.{_≡_, ap, sym, _∙_}
 use mathlib.Core.List.{List}
 use native.Mathlib.Omega.{arith}
-use lib.ListN.{getD, take, drop}
+use lib.ListN.{length, getD, take, drop}
 use lib.Seq.{getD-drop}
 use Rattle.answer.specs.declared.Answer.{Answer}
 use Rattle.answer.specs.declared.Answer.the-variants.{Done}
 use Rattle.answer.specs.Fronts.{over}
-use Rattle.answer.proofs.Over.{made, over-at, take-over}
+use Rattle.answer.proofs.Over.{over-at}
 use Rattle.instance.specs.Table.{rowBits}
+use Rattle.instance.specs.Wired.{Wired, Keyed}
 use Rattle.filter.specs.Filter.{var}
 use Rattle.filter.specs.Instances.{rowBit}
 use Rattle.filter.specs.Papers.{published}
@@ -21,6 +22,7 @@ use Rattle.cipher.specs.Rows.{streamBit}
 use Rattle.cipher.specs.Cipher.{keystreamOf, Streamed}
 use Rattle.cipher.proofs.Accepted.{stream-of, rows-of}
 use Rattle.cipher.proofs.Written.{keystream-length}
+use Rattle.claims.proofs.Accepted.{front-of, keystream-gives}
 
 -- the first m bits of a list are the published ones
 pub record AsPublished (inst m : ℕ) (key idx wh out : List ℕ) : Type 0 where
@@ -42,27 +44,27 @@ row-published inst key idx wh t h l =
     filter-published inst h l (var key (drop (t * rowBits inst) idx) (drop (t * rowBits inst) wh))
     ∙ ap (published inst) (variables key idx wh (t * rowBits inst))
 
--- A call of keystream that is done leaves them.
-module _ (inst m : ℕ) (key idx wh out : List ℕ) {r : Answer} {out′ : List ℕ} (s : Streamed inst m key idx wh out r out′) (d : r ≡ Done) where
+-- A call of keystream that is lent what the rules let a caller lend, and room, is done and leaves them.
+module _ (inst m : ℕ) (key idx wh out : List ℕ) (wired : Wired inst m idx wh) (keyed : Keyed inst key) (space : m ≤ length out)
+    {r : Answer} {out′ : List ℕ} (s : Streamed inst m key idx wh out r out′) where
   abbrev ks : List ℕ
   ks = keystreamOf inst m key idx wh
 
-  written : out′ ≡ over ks out
-  written = s .written ∙ sym (made _ _ d)
-
-  front : take m out′ ≡ ks
-  front = ap (take m) written ∙ ap (λ (k : ℕ). take k (over ks out)) (sym (keystream-length inst m key idx wh)) ∙ take-over ks out
+  given : (r ≡ Done) × (out′ ≡ over ks out)
+  given = keystream-gives inst m idx wh wired key keyed out space s
 
   bit : (t : ℕ) → t < m → getD out′ t 0 ≡ getD ks t 0
-  bit t h = ap (λ (l : List ℕ). getD l t 0) written ∙ over-at ks out t (omega (arith, keystream-length inst m key idx wh))
+  bit t h = ap (λ (l : List ℕ). getD l t 0) (given .1) ∙ over-at ks out t (omega (arith, keystream-length inst m key idx wh))
 
-  pub keystream-published : AsPublished inst m key idx wh out′
-  keystream-published =
-      record {
-        filtered = λ h l t q.
-            bit t q
-            ∙ ap (λ (z : List ℕ). getD z t 0) (sym (rows-of inst m key idx wh (λ e. omega arith)))
-            ∙ tab-at (streamBit inst key idx wh) m t q
-            ∙ row-published inst key idx wh t h l;
-        streamed = λ e. front ∙ sym (stream-of inst m key idx wh e);
-      }
+  pub keystream-published : (r ≡ Done) × AsPublished inst m key idx wh out′
+  keystream-published = (
+    given .0,
+    record {
+      filtered = λ h l t q.
+          bit t q
+          ∙ ap (λ (z : List ℕ). getD z t 0) (sym (rows-of inst m key idx wh (λ e. omega arith)))
+          ∙ tab-at (streamBit inst key idx wh) m t q
+          ∙ row-published inst key idx wh t h l;
+      streamed = λ e. front-of ks out m (keystream-length inst m key idx wh) (given .1) ∙ sym (stream-of inst m key idx wh e);
+    },
+  )

@@ -2,20 +2,27 @@
 -- behind it gives on key and enciphered record what it gives on the plain record. The wiring, the key and the record are any
 -- that document 01 lets a caller lend, and every list has room: that the calls answer Done is said, not supposed.
 use Prim.Native.Nat.{ℕ, _+_, _≤_}
+use mathlib.Core.Bool.{not}
 use mathlib.Core.Path.{_≡_, refl, sym, ap, _∙_}
 use mathlib.Core.List.{List, _++_}
 use native.Mathlib.Omega.{arith}
 use lib.ListN.{length, take, length-map}
+use borrow.Author.Tests.{eq-eqb, le-ltb}
 use Rattle.answer.specs.declared.Answer.{Answer}
 use Rattle.answer.specs.declared.Answer.the-variants.{Done}
+use Rattle.answer.proofs.Rows.{both, refuse-not}
 use Rattle.answer.proofs.Over.{made}
 use Rattle.netlist.specs.Net.{Net, at, run, valAlg, eval}
 use Rattle.netlist.specs.Words.{inputsOf, gatesOf, outputsOf, words, netOf}
 use Rattle.netlist.specs.Check.{gateLimit}
 use Rattle.netlist.specs.Sound.{Sound}
+use Rattle.netlist.proofs.Accepted.{sound-done}
 use Rattle.netlist.proofs.Words.{netOf-words, outs-length}
+use Rattle.instance.specs.Table.{keyBits}
 use Rattle.instance.specs.Wired.{Wired, Bits, Keyed}
+use Rattle.instance.proofs.Accepted.{done-room}
 use Rattle.cipher.specs.Cipher.{encipherOf, Ciphered}
+use Rattle.cipher.proofs.Accepted.{encipher-accepted}
 use Rattle.evaluate.specs.Evaluate.{evaluateAnswer, Evaluated}
 use Rattle.evaluate.proofs.Accepted.{ready-done}
 use Rattle.glue.specs.Glue.{gluedSize, gluedWords, GluedAs}
@@ -23,6 +30,7 @@ use Rattle.glue.specs.Parts.{Fit}
 use Rattle.emit.specs.Emit.{decipherNet, decipherAnswer, Emitted}
 use Rattle.emit.specs.Lent.{Lent}
 use Rattle.emit.proofs.Accepted.{lent-of}
+use Rattle.path.specs.Path.{roomsAnswer, scoreAnswer, Scored}
 use Rattle.path.proofs.Gluing.{glue-accepts, glued-ready}
 use Rattle.path.proofs.Emission.{emitted-sound, emitted-outputs, emitted-evaluates}
 use Rattle.path.proofs.Scores.{bits-both, both-count, scores-same}
@@ -145,3 +153,19 @@ module _ (inst m : ℕ) (idx wh : List ℕ) where
           let o = outputs-front (take (length G) glued′) G (key ++ take m enc′) (key ++ sealed) vals outs (outputsOf score) tg te (ap length same ∙ n) (score-ready score (length glued) (length vals) (length outs) f hv ho) v in
           let k = outputs-front score score rec rec vals₂ outs₂ (outputsOf score) refl refl n (plain-ready score (length vals₂) (length outs₂) s hv₂ ho₂) u in
           (p .0, w .0, g .0, o .0, k .0, o .1 ∙ same ∙ sym (k .1))
+
+      -- The same of the whole path as one call: it is done, and its scores are the scoring netlist's outputs on the plain record.
+      pub path-scores : (score enc out glued inp vals outs : List ℕ) {r : Answer} {enc′ out′ glued′ inp′ vals′ outs′ : List ℕ}
+          → Scores score
+          → m ≤ length enc → length netWords ≤ length out → gluedSize netWords score ≤ length glued → keyBits inst + m ≤ length inp
+          → keyBits inst + m + (gatesOf netWords + gatesOf score) ≤ length vals → outputsOf score ≤ length outs
+          → Scored inst m key rec idx wh score enc out glued inp vals outs r enc′ out′ glued′ inp′ vals′ outs′
+          → (r ≡ Done) × (take (outputsOf score) outs′ ≡ eval (netOf score) rec)
+      unfolding scoreAnswer roomsAnswer
+      path-scores score enc out glued inp vals outs {r} {enc′} {out′} {glued′} {inp′} {vals′} {outs′} s he hd hg hi hv ho x =
+          let rooms = both (done-room 6 _ _ he) (both (done-room 7 _ _ hd) (both (done-room 8 _ _ hg) (both (done-room 9 _ _ hi) (both (done-room 10 _ _ hv) (done-room 11 _ _ ho))))) in
+          let fits = both (refuse-not 10 0 0 (ap not (eq-eqb m _ (sym (s .inputs))))) (refuse-not 11 0 0 (le-ltb _ _ (s .few))) in
+          let e : r ≡ Done =
+          x .answered
+          ∙ both (encipher-accepted inst m key rec idx wh m wired keyed bits (omega arith)) (both (sound-done 5 score (s .sound)) (both rooms fits)) in
+          (e, front-of _ outs (outputsOf score) (outputs-count score rec (s .sound)) (x .scores ∙ sym (made _ _ e)))

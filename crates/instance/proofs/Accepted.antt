@@ -44,7 +44,7 @@ done-first n l p s h = first-go n l p s (length s) (sym (first-none p (length s)
 -- ---- rows of n, end to end: place j of row i is i * n + j
 
 -- the row and the place in it of place k of the list
-place-of : (m n k : ℕ) → k < m * n → (k / n * n + k % n ≡ k) × (k / n < m) × (k % n < n)
+pub place-of : (m n k : ℕ) → k < m * n → (k / n * n + k % n ≡ k) × (k / n < m) × (k % n < n)
 place-of m zero k h = absurd (omega (arith, mul-zero m))
 place-of m (suc n) k h =
     let e = div-add-mod' k (suc n) in
