@@ -1,20 +1,18 @@
 -- Frames and the calls below them: a frame holds what `encipher` with instance 6 gives, and the netlist that deciphers under
 -- its IV gives the record.
 use Prim.Native.Nat.{ℕ, _+_, _≤_}
-use mathlib.Core.Path.{_≡_, refl, sym, ap, _∙_}
+use mathlib.Core.Path.{_≡_, sym, ap, _∙_}
 use mathlib.Core.List.{List, [], _++_}
 use native.Mathlib.Omega.{arith}
 use lib.ListN.{length, take}
 use Rattle.answer.specs.declared.Answer.{Answer}
 use Rattle.answer.specs.declared.Answer.the-variants.{Done}
-use Rattle.answer.specs.Fronts.{left}
 use Rattle.answer.proofs.Over.{made}
 use Rattle.netlist.specs.Net.{eval}
 use Rattle.netlist.specs.Words.{inputsOf, gatesOf, words}
 use Rattle.instance.specs.Table.{sizesOf}
 use Rattle.instance.specs.Wired.{Wired, Bits, Keyed}
 use Rattle.instance.proofs.Accepted.{kreyvium-wired}
-use Rattle.cipher.specs.Judging.{encipherAnswer}
 use Rattle.cipher.specs.Cipher.{encipherOf, Ciphered}
 use Rattle.evaluate.specs.Evaluate.{Evaluated}
 use Rattle.emit.specs.Emit.{decipherNet, decipherAnswer, Emitted}
@@ -27,7 +25,7 @@ use Rattle.frames.proofs.Judged.{lent-append}
 use Rattle.frames.proofs.Sealing.{unpacked-length, unpacked-small, sealed-bits, sealed-back}
 use Rattle.frames.proofs.Places.{frame-sealed}
 use Rattle.claims.proofs.Accepted.{front-of, encipher-gives, inputs-of}
-use Rattle.claims.proofs.Scoring.{emitted-deciphers}
+use Rattle.claims.proofs.Scoring.{emitted-gives}
 
 -- ---- what Kreyvium's calls are lent
 
@@ -96,15 +94,8 @@ module _ (key s : List ℕ) (k : ℕ) (b : BitList 128 key) where
       → Evaluated (take (length netWords) out′) (key ++ sealed) vals outs t vals′ outs′
       → (r ≡ Done) × (t ≡ Done) × (take 64 outs′ ≡ recordIn key s k)
   unfolding recordIn
-  frame-netlist out vals outs {r} {t} {out′} {vals′} {outs′} h hv ho m v =
-      let e = encipherOf 6 64 key sealed [] iv in
-      let w = wired iv iv-bits in
-      let g = keyed key b in
-      let l = bits-of 64 sealed sealed-list in
-      let n : 64 ≤ length sealed = omega (arith, sealed-list .size) in
-      let c : Ciphered 6 64 key sealed [] iv sealed (encipherAnswer 6 64 key sealed [] iv (length sealed)) (left (encipherAnswer 6 64 key sealed [] iv (length sealed)) e sealed) = record { answered = refl; written = refl } in
-      let p = emitted-deciphers 6 64 [] iv w key sealed g l out sealed vals outs h n hv ho m c v in
-      (p .0, p .2, p .3 ∙ front-of e sealed 64 (sealed-bits key sealed iv (sealed-list .size) .size) (encipher-gives 6 64 [] iv w key g sealed sealed l n c .1))
+  frame-netlist out vals outs h hv ho m v =
+      emitted-gives 6 64 [] iv (wired iv iv-bits) key sealed (keyed key b) (bits-of 64 sealed sealed-list) out vals outs h hv ho m v
 
 -- So the frame that `append` left is deciphered by the netlist of its IV: on the key and the frame's 64 bits it gives the
 -- record.

@@ -29,7 +29,8 @@ use Rattle.path.proofs.Gluing.{glued-depth, glued-mults, glued-sound}
 use Rattle.path.proofs.Emission.{emitted-sound, emitted-mults, emitted-depth, kreyvium-emitted-mults}
 use Rattle.claims.proofs.Scoring.{netWords, words-left}
 
--- A call of the meter with a word for each wire and a record for each level, and what it returned.
+-- A call of the meter with a depth word for each wire and a level record for each depth up to the largest of any gate, and what
+-- it returned.
 pub record MeterCall (net : List ℕ) (r : Metered) : Type 0 where
   pub ds : List ℕ
   pub ls : List Level
@@ -47,10 +48,10 @@ module _ (net : List ℕ) (r : Metered) (s : Sound net) (m : MeterCall net r) wh
       m .outcome .answered
       ∙ both (both (sound-done 1 net s) (refuse-not _ _ _ (le-ltb _ _ (m .wires)))) (refuse-not _ _ _ (le-ltb _ _ (m .levels)))
 
-  pub depth-is : r .depth ≡ depth (netOf net)
+  depth-is : r .depth ≡ depth (netOf net)
   depth-is = m .outcome .deep ∙ sym (told _ meter-accepts)
 
-  pub mults-is : r .multiplications ≡ mults (netOf net)
+  mults-is : r .multiplications ≡ mults (netOf net)
   mults-is = m .outcome .multiplied ∙ sym (told _ meter-accepts)
 
 pub glued-metered : (a b : List ℕ) (n : ℕ) {r s t : Metered} → Fit a b n

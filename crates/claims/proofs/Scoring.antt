@@ -104,8 +104,22 @@ module _ (inst m : ℕ) (idx wh : List ℕ) where
           ready-done score rec v o
           record { sound = s .sound; count = bits .size ∙ sym (s .inputs); bits = bits .bit; values = hv; outputs = ho }
 
-      -- Demand 2: evaluated on the key's bits and the record, the emitted words give what decipher leaves of that record under
-      -- that key.
+      -- Evaluated on the key's bits and the record, the emitted words give the deciphered record.
+      pub emitted-gives : (out vals outs : List ℕ) {q t : Answer} {out′ vals′ outs′ : List ℕ}
+          → length netWords ≤ length out → inputsOf netWords + gatesOf netWords ≤ length vals → m ≤ length outs
+          → Emitted (decipherAnswer inst m idx wh (length out)) (decipherNet inst m idx wh) out q out′
+          → Evaluated (take (length netWords) out′) (key ++ rec) vals outs t vals′ outs′
+          → (q ≡ Done) × (t ≡ Done) × (take m outs′ ≡ encipherOf inst m key rec idx wh)
+      emitted-gives out vals outs {q} {t} {out′} {vals′} {outs′} hn hv ho x v =
+          let w = words-left out hn x in
+          let p : eval (netOf netWords) (key ++ rec) ≡ encipherOf inst m key rec idx wh =
+          ap (λ (net : Net). eval net (key ++ rec)) (netOf-words (decipherNet inst m idx wh))
+          ∙ emitted-evaluates inst m idx wh lent key rec (inputs-of inst m idx wh wired key keyed rec bits) in
+          let n = ap length p ∙ enciphered inst m idx wh wired key keyed rec bits .size in
+          let e = outputs-front (take (length netWords) out′) netWords (key ++ rec) (key ++ rec) vals outs m (w .1) refl n (decipher-ready (length vals) (length outs) hv ho) v in
+          (w .0, e .0, e .1 ∙ p)
+
+      -- Demand 2: that is what decipher leaves of that record under that key.
       pub emitted-deciphers : (out back vals outs : List ℕ) {q r t : Answer} {out′ back′ vals′ outs′ : List ℕ}
           → length netWords ≤ length out → m ≤ length back → inputsOf netWords + gatesOf netWords ≤ length vals → m ≤ length outs
           → Emitted (decipherAnswer inst m idx wh (length out)) (decipherNet inst m idx wh) out q out′
@@ -113,15 +127,10 @@ module _ (inst m : ℕ) (idx wh : List ℕ) where
           → Evaluated (take (length netWords) out′) (key ++ rec) vals outs t vals′ outs′
           → (q ≡ Done) × (r ≡ Done) × (t ≡ Done) × (take m outs′ ≡ take m back′)
       emitted-deciphers out back vals outs {q} {r} {t} {out′} {back′} {vals′} {outs′} hn hb hv ho x c v =
-          let plain = encipherOf inst m key rec idx wh in
-          let w = words-left out hn x in
+          let e = emitted-gives out vals outs hn hv ho x v in
           let g = encipher-gives inst m idx wh wired key keyed rec back bits hb c in
           let n = enciphered inst m idx wh wired key keyed rec bits .size in
-          let p : eval (netOf netWords) (key ++ rec) ≡ plain =
-          ap (λ (net : Net). eval net (key ++ rec)) (netOf-words (decipherNet inst m idx wh))
-          ∙ emitted-evaluates inst m idx wh lent key rec (inputs-of inst m idx wh wired key keyed rec bits) in
-          let e = outputs-front (take (length netWords) out′) netWords (key ++ rec) (key ++ rec) vals outs m (w .1) refl (ap length p ∙ n) (decipher-ready (length vals) (length outs) hv ho) v in
-          (w .0, g .0, e .0, e .1 ∙ p ∙ sym (front-of plain back m n (g .1)))
+          (e .0, g .0, e .1, e .2 ∙ sym (front-of (encipherOf inst m key rec idx wh) back m n (g .1)))
 
       -- Demand 3: encipher leaves the enciphered record, emit_decipher the deciphering netlist, and glue the scoring netlist
       -- behind it; evaluated on the key and the enciphered record, that gives what evaluating the scoring netlist on the plain

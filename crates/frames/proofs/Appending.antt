@@ -20,11 +20,12 @@ use Rattle.answer.specs.Fronts.{over, left}
 use Rattle.answer.proofs.Over.{take-over, made}
 use Rattle.answer.proofs.Rows.{refuse-not, pass}
 use Rattle.instance.specs.Judging.{lengthAnswer, roomAnswer}
+use Rattle.instance.proofs.Accepted.{done-room}
 use Rattle.frames.specs.Bytes.{BitList, digits, unpacked}
 use Rattle.frames.specs.Frames.{frameSize, frameOf, start, framesIn, begins, ivNumber, ivValue, rises, above, recordsIn, frameAnswer, fileAnswer, newAnswer, lengthsAnswer, threeBitsAnswer, endAnswer, appendAnswer, lastAnswer, appendAfterAnswer, readAnswer, Appended, AppendedAfter, FramesRead, Rising, fileOf, endToEnd, lastOf, onList, sixteenAt}
 use Rattle.frames.specs.Lent.{Whole}
 use Rattle.frames.proofs.Digits.{digits-agree, digits-unpacked}
-use Rattle.frames.proofs.Judged.{append-lent, lent-append, lent-read, length-good, bits-good, room-good, begins-marked, begins-there, frame-done, file-done, file-whole, file-begins, file-rises, last-none, last-whole}
+use Rattle.frames.proofs.Judged.{append-lent, lent-append, lent-read, length-good, bits-good, begins-marked, begins-there, frame-done, file-done, file-whole, file-begins, file-rises, last-none, last-whole}
 use Rattle.frames.proofs.Places.{frame-length, more-frames, more-file, new-iv, new-records}
 
 -- ---- an answer about another list
@@ -211,7 +212,7 @@ end-done (Refused n l p) = refl
 pub check-as-read : (key s : List ℕ) (n : ℕ) → BitList 128 key → 64 * framesIn s ≤ n → readAnswer key s n ≡ onList 2 (fileAnswer 1 s)
 unfolding readAnswer
 check-as-read key s n b h =
-    passed (length-good 1 128 key b) (passed (bits-good 1 128 key b) (ap (λ (a : Answer). fileAnswer 2 s ▹ a) (room-good 3 n (64 * framesIn s) h) ∙ end-done (fileAnswer 2 s) ∙ sym (file-onList 2 1 s)))
+    passed (length-good 1 128 key b) (passed (bits-good 1 128 key b) (ap (λ (a : Answer). fileAnswer 2 s ▹ a) (done-room 3 n (64 * framesIn s) h) ∙ end-done (fileAnswer 2 s) ∙ sym (file-onList 2 1 s)))
   where
     passed : {a b c : Answer} → a ≡ Done → b ≡ c → a ▹ b ≡ c
     passed e g = sym (pass e (sym g))

@@ -19,6 +19,7 @@ use Rattle.answer.proofs.Search.{bits-within, bits-done, done-bits}
 use Rattle.filter.proofs.Tab.{tab-at}
 use Rattle.instance.specs.Judging.{lengthAnswer, roomAnswer}
 use Rattle.instance.proofs.Judged.{length-done, room-done}
+use Rattle.instance.proofs.Accepted.{done-length, done-room}
 use Rattle.frames.specs.Bytes.{digits, packed, BitList}
 use Rattle.frames.specs.Frames.{byteP, byteT, frameSize, start, framesIn, begins, ivNumber, ivValue, rises, above, frameAnswer, fileAnswer, newAnswer, lengthsAnswer, threeBitsAnswer, endAnswer, appendAnswer, lastAnswer, appendAfterAnswer, readAnswer}
 use Rattle.frames.specs.Lent.{Whole, AppendLent, ReadLent}
@@ -330,15 +331,10 @@ bit-list : (l n : ℕ) (s : List ℕ) → lengthAnswer l (length s) n ≡ Done �
 bit-list l n s e f = record { size = length-done l (length s) n e; bit = bits-within s (bits-done l s f) }
 
 pub length-good : (l n : ℕ) (s : List ℕ) → BitList n s → lengthAnswer l (length s) n ≡ Done
-unfolding lengthAnswer
-length-good l n s b = refuse-not 3 l (length s) (ap not (eq-eqb (length s) n (b .size)))
+length-good l n s b = done-length l (length s) n (b .size)
 
 pub bits-good : (l n : ℕ) (s : List ℕ) → BitList n s → bitsAnswer l s ≡ Done
 bits-good l n s b = done-bits l s (λ k h. b .bit k)
-
-pub room-good : (l n needed : ℕ) → needed ≤ n → roomAnswer l n needed ≡ Done
-unfolding roomAnswer
-room-good l n needed h = refuse-not 8 l n (le-ltb n needed h)
 
 pub iv-lent : (key rec iv : List ℕ) {r t : Answer} → r ≡ lengthsAnswer key rec iv → r ≡ Done → t ≡ threeBitsAnswer key rec iv → t ≡ Done → BitList 128 iv
 unfolding lengthsAnswer threeBitsAnswer
@@ -383,7 +379,7 @@ module _ (key rec iv s : List ℕ) (n : ℕ) where
 
     end-lent : endAnswer s iv n ≡ Done
     unfolding endAnswer
-    end-lent = both (a .file) (both (a .rise) (room-good 5 n frameSize (a .room)))
+    end-lent = both (a .file) (both (a .rise) (done-room 5 n frameSize (a .room)))
 
     pub lent-append : appendAnswer key rec iv s n ≡ Done
     unfolding appendAnswer
@@ -407,4 +403,4 @@ read-lent key s n e =
 pub lent-read : (key s : List ℕ) (n : ℕ) → ReadLent key s n → readAnswer key s n ≡ Done
 unfolding readAnswer
 lent-read key s n a =
-    both (length-good 1 128 key (a .keyBits)) (both (bits-good 1 128 key (a .keyBits)) (both (a .file) (room-good 3 n (64 * framesIn s) (a .room))))
+    both (length-good 1 128 key (a .keyBits)) (both (bits-good 1 128 key (a .keyBits)) (both (a .file) (done-room 3 n (64 * framesIn s) (a .room))))
