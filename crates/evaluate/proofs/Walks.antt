@@ -10,7 +10,7 @@ use Rattle.answer.specs.Fronts.{over}
 use Rattle.answer.proofs.Over.{over-none, over-next, over-at, over-take, length-over, take-over, over-over}
 use Rattle.netlist.specs.Net.{Uses, at, step, run, valAlg, values, eval}
 use Rattle.netlist.specs.Words.{inputsOf, gatesOf, outputsOf, gatePlace, gateAt, gatesAt, netOf}
-use Rattle.netlist.proofs.Gates.{operands-low}
+use Rattle.netlist.proofs.Gates.{operands-low, taken-known}
 use Rattle.netlist.proofs.Sim.{run-append, run-length, step-front, each-map}
 use Rattle.answer.proofs.Search.{bits-within}
 use Rattle.netlist.proofs.Bits.{Bits, run-bits}
@@ -109,6 +109,7 @@ module _ (net inputs : List ℕ) (v o : ℕ) (r : Ready net inputs v o) where
       rw f
       record {
         words = omega (arith, r .sound .size);
+        known = λ g h. taken-known _ _ _ _ (r .sound .whole g h);
         uses = r .sound .uses;
         low = λ g h. operands-low _ _ _ _ _ (r .sound .uses g h) (r .sound .whole g h);
         room = omega (arith, r .values);

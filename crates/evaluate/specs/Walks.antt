@@ -1,10 +1,12 @@
 -- The walks over the inputs, the gates and the outputs: what each has written after n of them, and what it asks.
 use Prim.Native.Nat.{ℕ, _+_, _<_, _≤_}
+use mathlib.Core.Path.{_≡_}
 use mathlib.Core.List.{List, map}
 use lib.ListN.{length, getD, take, drop}
 use Rattle.answer.specs.Fronts.{over}
 use Rattle.netlist.specs.Net.{Uses, at, run, valAlg}
-use Rattle.netlist.specs.Words.{headerWords, gatePlace, gateAt, gatesAt}
+use Rattle.netlist.specs.declared.gate.Taken.the-variants.{Valid}
+use Rattle.netlist.specs.Words.{headerWords, gatePlace, takenAt, gateAt, gatesAt}
 
 -- the first n inputs at the front of vals
 unfoldable pub inputsPut : List ℕ → ℕ → List ℕ → List ℕ
@@ -18,10 +20,11 @@ gatesPut net I n vals = over (run valAlg (take I vals) (gatesAt net headerWords 
 unfoldable pub outputsPut : List ℕ → List ℕ → ℕ → ℕ → List ℕ → List ℕ
 outputsPut net vals start n outs = over (map (at valAlg vals) (take n (drop start net))) outs
 
--- The words of G gates are there, each over earlier wires, its three operand words no later than the gate's own; the
--- values have room, and bits at the inputs.
+-- The words of G gates are there, each of a known kind and over earlier wires, its three operand words no later than the
+-- gate's own; the values have room, and bits at the inputs.
 pub record GatesFit (net : List ℕ) (I G : ℕ) (vals : List ℕ) : Type 0 where
   pub words : gatePlace G ≤ length net
+  pub known : (g : ℕ) → g < G → takenAt net (gatePlace g) ≡ Valid (gateAt net (gatePlace g))
   pub uses : (g : ℕ) → g < G → Uses (I + g) (gateAt net (gatePlace g))
   pub low : (g : ℕ) → g < G → (getD net (gatePlace g + 1) 0 ≤ I + g) × (getD net (gatePlace g + 2) 0 ≤ I + g) × (getD net (gatePlace g + 3) 0 ≤ I + g)
   pub room : I + G ≤ length vals

@@ -4,6 +4,7 @@ use answer::Answer;
 use netlist::GATE_STRIDE;
 use netlist::HEADER_WORDS;
 use netlist::gate::Gate;
+use netlist::gate::Taken;
 ghost use mathlib.Core.Path.{_≡_};
 ghost use Prim.Native.Nat.{_≤_};
 ghost use lib.ListN.{length};
@@ -46,7 +47,8 @@ fn put_inputs(inputs: &[u8], values: &mut [u8])
     }
 }
 
-// The gates' values, after those of the inputs, which stand.
+// The gates' values, after those of the inputs, which stand. In an accepted netlist every kind is known: the
+// walk does not end at one that is not.
 fn put_gates(net: &[u32], values: &mut [u8], inputs: usize, gates: usize)
     requires { ⌜ GatesFit (now net) inputs gates (now values) ⌝ }
     ensures { λ r. ⌜ now (values .exit) ≡ gatesPut (now (net .entry)) inputs gates (now (values .entry)) ⌝ }
@@ -57,7 +59,10 @@ fn put_gates(net: &[u32], values: &mut [u8], inputs: usize, gates: usize)
         let a = net[at + 1];
         let b = net[at + 2];
         let c = net[at + 3];
-        let gate = netlist::gate::decoded(net[at], a, b, c);
+        let t = netlist::gate::take_apart(net[at], a, b, c);
+        let Taken::Valid(gate) = t else {
+            return;
+        };
         let i = a as usize;
         let j = b as usize;
         let k = c as usize;

@@ -12,7 +12,7 @@ use Rattle.answer.specs.Fronts.{over}
 use Rattle.answer.proofs.Over.{length-over, over-sets, over-tail, tail-is}
 use Rattle.netlist.specs.declared.gate.Gate.{Gate}
 use Rattle.netlist.specs.declared.gate.Gate.the-variants.{Zero, One, Not, Xor, And, Mux}
-use Rattle.netlist.specs.Gates.{gateWords}
+use Rattle.netlist.specs.Gates.{usesOf, gateWords}
 use Rattle.netlist.specs.Net.{wiresOf}
 use Rattle.netlist.specs.Words.{inputsOf, gatesOf, outputsOf, gatePlace, gatesWords, gateAt, gatesAt, netOf, words}
 use Rattle.netlist.specs.Glue.{ren, thru, wireOf, glue}
@@ -40,9 +40,9 @@ wrote-tail front w old n {out} {part} e h o k p =
 pub kept-length : (front old : List ℕ) {out : List ℕ} → out ≡ over front old → length front ≤ length old → length out ≡ length old
 kept-length front old e h = ap length e ∙ length-over front old h
 
--- a gate's words renamed: those of the operands that its kind uses
+-- a gate's words renamed: those of the operands that it uses
 pub renamed-words : (f : ℕ → ℕ) (g : Gate) (k a b c : ℕ) → gateWords g ≡ k ∷ a ∷ b ∷ c ∷ []
-    → gateWords (ren f g) ≡ k ∷ choose (ltb 1 k) (f a) 0 ∷ choose (ltb 2 k) (f b) 0 ∷ choose (ltb 4 k) (f c) 0 ∷ []
+    → gateWords (ren f g) ≡ k ∷ choose (ltb 0 (usesOf g)) (f a) 0 ∷ choose (ltb 1 (usesOf g)) (f b) 0 ∷ choose (ltb 2 (usesOf g)) (f c) 0 ∷ []
 renamed-words f Zero k a b c e = let h : k ≡ 0 = cc in rw h
 renamed-words f One k a b c e = let h : k ≡ 1 = cc in rw h
 renamed-words f (Not x) k a b c e = let h : k ≡ 2 = cc in let p : a ≡ x = cc in rw (h, p)
@@ -70,10 +70,10 @@ module _ (b outs : List ℕ) (base : ℕ) (old : List ℕ) where
       ∙ ap gatesWords (sym (map-append f (gatesAt b 3 g) _) ∙ ap (map f) (sym (gates-snoc b 3 g))))
 
   -- one more gate, by its words
-  pub words-more : (room g : ℕ) {out : List ℕ} {x y z : ℕ} → Second b base room → g < gatesOf b → 4 * g + 4 ≤ length old → out ≡ over (written g) old
-      → x ≡ choose (ltb 1 (getD b (gatePlace g) 0)) (thru outs base (getD b (gatePlace g + 1) 0)) 0
-      → y ≡ choose (ltb 2 (getD b (gatePlace g) 0)) (thru outs base (getD b (gatePlace g + 2) 0)) 0
-      → z ≡ choose (ltb 4 (getD b (gatePlace g) 0)) (thru outs base (getD b (gatePlace g + 3) 0)) 0
+  pub words-more : (room g : ℕ) {out : List ℕ} {x y z : ℕ} → Second b outs base room → g < gatesOf b → 4 * g + 4 ≤ length old → out ≡ over (written g) old
+      → x ≡ choose (ltb 0 (usesOf (gateAt b (gatePlace g)))) (thru outs base (getD b (gatePlace g + 1) 0)) 0
+      → y ≡ choose (ltb 1 (usesOf (gateAt b (gatePlace g)))) (thru outs base (getD b (gatePlace g + 2) 0)) 0
+      → z ≡ choose (ltb 2 (usesOf (gateAt b (gatePlace g)))) (thru outs base (getD b (gatePlace g + 3) 0)) 0
       → sets out (4 * g) (getD b (gatePlace g) 0 ∷ x ∷ y ∷ z ∷ []) ≡ over (written (g + 1)) old
   words-more room g {out} {x} {y} {z} s h r o ex ey ez =
       let w : getD b (gatePlace g) 0 ∷ x ∷ y ∷ z ∷ [] ≡ gateWords (ren (thru outs base) (gateAt b (gatePlace g))) =
@@ -81,13 +81,13 @@ module _ (b outs : List ℕ) (base : ℕ) (old : List ℕ) where
       ap (sets out (4 * g)) w ∙ ap (λ (t : List ℕ). sets t (4 * g) (gateWords (ren (thru outs base) (gateAt b (gatePlace g))))) o ∙ written-more g r
 
 -- behind few wires the operand words of a sound gate stay words
-pub small-gate : (b : List ℕ) (base room g : ℕ) → Second b base room → g < gatesOf b
+pub small-gate : (b outs : List ℕ) (base room g : ℕ) → Second b outs base room → g < gatesOf b
     → (base + getD b (gatePlace g + 1) 0 < 4294967296) × (base + getD b (gatePlace g + 2) 0 < 4294967296) × (base + getD b (gatePlace g + 3) 0 < 4294967296)
-small-gate b base room g s h =
+small-gate b outs base room g s h =
     omega (arith, operands-low _ _ _ _ _ (s .sound .uses g h) (s .sound .whole g h), s .few, s .sound .limits)
 
-pub small-outs : (b : List ℕ) (base room : ℕ) → Second b base room → SmallAll base (drop (gatePlace (gatesOf b)) b)
-small-outs b base room s i h =
+pub small-outs : (b outs : List ℕ) (base room : ℕ) → Second b outs base room → SmallAll base (drop (gatePlace (gatesOf b)) b)
+small-outs b outs base room s i h =
     let k : i < outputsOf b = omega (arith, outs-length b (s .sound)) in
     omega (arith, getD-drop (gatePlace (gatesOf b)) b i 0, s .sound .output i k, s .few, s .sound .limits)
 

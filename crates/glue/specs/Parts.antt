@@ -5,7 +5,7 @@ use mathlib.Core.List.{List, _++_, map}
 use lib.ListN.{length, getD, drop}
 use Rattle.netlist.specs.Words.{inputsOf, gatesOf, outputsOf, gatePlace, gatesWords, gatesAt}
 use Rattle.netlist.specs.Glue.{ren, thru}
-use Rattle.netlist.specs.Check.{gateLimit}
+use Rattle.netlist.specs.Check.{gateLimit, outputLimit}
 use Rattle.netlist.specs.Sound.{Sound}
 use Rattle.glue.specs.Glue.{gluedSize}
 
@@ -18,10 +18,11 @@ unfoldable pub secondWords : List ℕ → List ℕ → ℕ → List ℕ
 secondWords b outs base =
     gatesWords (map (ren (thru outs base)) (gatesAt b 3 (gatesOf b))) ++ map (thru outs base) (drop (gatePlace (gatesOf b)) b)
 
--- a sound second netlist behind base wires, and room for its gates and outputs
-pub record Second (b : List ℕ) (base room : ℕ) : Type 0 where
+-- a sound second netlist behind base wires, outs for its inputs, and room for its gates and outputs
+pub record Second (b outs : List ℕ) (base room : ℕ) : Type 0 where
   pub sound : Sound b
   pub few : base < 1000000
+  pub inputs : length outs ≤ outputLimit
   pub space : 4 * gatesOf b + outputsOf b ≤ room
 
 -- two sound netlists that fit, and room for the glued one

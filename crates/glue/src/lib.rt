@@ -4,40 +4,34 @@
 use answer::Answer;
 use netlist::GATE_STRIDE;
 use netlist::HEADER_WORDS;
+use netlist::gate::Taken;
 ghost use mathlib.Core.Path.{_≡_};
 ghost use mathlib.Core.List.{[], _∷_, _++_, map};
 ghost use Prim.Native.Nat.{_+_, _<_, _≤_};
 ghost use lib.ListN.{length, drop};
+ghost use lib.Dec.{ltb};
 ghost use lib.Seq.{sets};
 ghost use Rattle.answer.specs.Choose.{choose};
 ghost use Rattle.answer.specs.Fronts.{over};
 ghost use Rattle.netlist.specs.Words.{gatesOf, gatePlace, gatesWords, gatesAt};
 ghost use Rattle.netlist.specs.Glue.{thru, ren};
+ghost use Rattle.netlist.specs.Check.{outputLimit};
 ghost use Rattle.glue.specs.Glue.{glueAnswer, gluedWords, GluedAs};
 ghost use Rattle.glue.specs.Parts.{SmallAll, secondWords, Second, Fit};
 
-// Where wire i of the second netlist stands: outs are the first's outputs, base the number of its wires.
-fn wire(outs: &[u32], base: u32, i: u32) -> u32
-    requires { ⌜ base + i < 4294967296 ⌝ }
-    ensures { λ r. ⌜ r ≡ thru (now (outs .entry)) base i ⌝ }
+// Where wire i of the second netlist stands, if used is 1: outs are the first's outputs, base the number of
+// its wires. If it is 0, 0: reckoned with and not branched on, since kinds come in no order.
+fn wire(outs: &[u32], base: u32, used: u32, i: u32) -> u32
+    requires { ⌜ (used ≤ 1) × (length (now outs) ≤ outputLimit) × (base + i < 4294967296) ⌝ }
+    ensures { λ r. ⌜ r ≡ choose (ltb 0 used) (thru (now (outs .entry)) base i) 0 ⌝ }
 {
-    let k = i as usize;
-    if k < outs.len() {
+    let inputs = used * (outs.len() as u32);
+    if i < inputs {
+        let k = i as usize;
         let output = outs[k];
         return output;
     }
-    base + (k - outs.len()) as u32
-}
-
-// An operand of a gate of the second netlist over the wires of the glued one; one that is not used is 0.
-fn operand(outs: &[u32], base: u32, used: bool, i: u32) -> u32
-    requires { ⌜ base + i < 4294967296 ⌝ }
-    ensures { λ r. ⌜ r ≡ choose used (thru (now (outs .entry)) base i) 0 ⌝ }
-{
-    if used {
-        return wire(outs, base, i);
-    }
-    0
+    used * (base + i) - inputs
 }
 
 fn put_gate(out: &mut [u32], at: usize, kind: u32, a: u32, b: u32, c: u32)
@@ -50,18 +44,27 @@ fn put_gate(out: &mut [u32], at: usize, kind: u32, a: u32, b: u32, c: u32)
     out[at + 3] = c;
 }
 
-// The second netlist's gates. Kinds 2 to 5 use a, 3 to 5 use b, and 5 uses c.
+// The second netlist's gates. In an accepted netlist every kind is known: the walk does not end at one that
+// is not.
 fn put_gates(second: &[u32], gates: usize, outs: &[u32], base: u32, out: &mut [u32])
-    requires { ⌜ (Second (now second) base (length (now out))) × (gates ≡ gatesOf (now second)) ⌝ }
+    requires { ⌜ (Second (now second) (now outs) base (length (now out))) × (gates ≡ gatesOf (now second)) ⌝ }
     ensures { λ r. ⌜ now (out .exit) ≡ over (gatesWords (map (ren (thru (now (outs .entry)) base)) (gatesAt (now (second .entry)) 3 gates))) (now (out .entry)) ⌝ }
 {
     let mut g: usize = 0;
     while g < gates {
         let at = HEADER_WORDS + GATE_STRIDE * g;
         let kind = second[at];
-        let a = operand(outs, base, 1 < kind, second[at + 1]);
-        let b = operand(outs, base, 2 < kind, second[at + 2]);
-        let c = operand(outs, base, 4 < kind, second[at + 3]);
+        let i = second[at + 1];
+        let j = second[at + 2];
+        let k = second[at + 3];
+        let t = netlist::gate::take_apart(kind, i, j, k);
+        let Taken::Valid(gate) = t else {
+            return;
+        };
+        let used = netlist::gate::used(gate);
+        let a = wire(outs, base, used % 2, i);
+        let b = wire(outs, base, used / 2 % 2, j);
+        let c = wire(outs, base, used / 4, k);
         put_gate(out, GATE_STRIDE * g, kind, a, b, c);
         g += 1;
     }
@@ -69,12 +72,12 @@ fn put_gates(second: &[u32], gates: usize, outs: &[u32], base: u32, out: &mut [u
 
 // The second netlist's outputs, which are the given words of it.
 fn put_outputs(wires: &[u32], outs: &[u32], base: u32, out: &mut [u32])
-    requires { ⌜ (length (now wires) ≤ length (now out)) × SmallAll base (now wires) ⌝ }
+    requires { ⌜ (length (now wires) ≤ length (now out)) × SmallAll base (now wires) × (length (now outs) ≤ outputLimit) ⌝ }
     ensures { λ r. ⌜ now (out .exit) ≡ over (map (thru (now (outs .entry)) base) (now (wires .entry))) (now (out .entry)) ⌝ }
 {
     let mut o: usize = 0;
     while o < wires.len() {
-        let w = wire(outs, base, wires[o]);
+        let w = wire(outs, base, 1, wires[o]);
         out[o] = w;
         o += 1;
     }
@@ -82,7 +85,7 @@ fn put_outputs(wires: &[u32], outs: &[u32], base: u32, out: &mut [u32])
 
 // The second netlist's gates and outputs, from the front of what is lent.
 fn put_second(second: &[u32], outs: &[u32], base: u32, out: &mut [u32])
-    requires { ⌜ Second (now second) base (length (now out)) ⌝ }
+    requires { ⌜ Second (now second) (now outs) base (length (now out)) ⌝ }
     ensures { λ r. ⌜ now (out .exit) ≡ over (secondWords (now (second .entry)) (now (outs .entry)) base) (now (out .entry)) ⌝ }
 {
     let gates = second[1] as usize;

@@ -1,27 +1,27 @@
 -- Laws of depths: their bounds, one more gate, and the largest of them.
 use Prim.Native.Nat.{ℕ, zero, suc, _+_, _/_, _<_, _≤_, max, zero-le}
 use mathlib.Core.Path.{_≡_, refl, sym, ap, subst, _∙_}
-use mathlib.Core.List.{List, [], _∷_, _++_, map}
+use mathlib.Core.List.{List, [], _∷_, _++_, map, append-assoc}
 use native.Mathlib.Omega.{arith}
 use native.Mathlib.Numerals.{add-one}
-use lib.ListN.{length, getD, set, take, drop, replicate, length-replicate, length-drop, take-append-drop}
-use lib.Seq.{take-suc, take-length, take-append-seam, take-take, take-all, getD-drop}
+use lib.ListN.{length, getD, set, take, drop, replicate, length-replicate, getD-replicate, replicate-append-replicate, length-drop, take-append-drop}
+use lib.Seq.{drop-at, take-suc, take-length, take-append-seam, take-take, take-all, getD-drop}
 use borrow.Author.Fill.{fill-more}
 use Rattle.answer.specs.Fronts.{over}
 use Rattle.answer.proofs.Over.{over-next, over-at, over-over, length-over, take-over}
 use Rattle.netlist.specs.declared.gate.Gate.{Gate}
 use Rattle.netlist.specs.declared.gate.Gate.the-variants.{Zero, One, Not, Xor, And, Mux}
 use Rattle.netlist.specs.Gates.{takenOf, gateWords, gateOf}
-use Rattle.netlist.specs.Net.{Net, Alg, at, step, run, depAlg, maxOf, depths, depth, wiresOf, Each, Uses}
+use Rattle.netlist.specs.Net.{Net, Alg, at, step, run, depAlg, maxOf, depths, depth, wiresOf, Uses}
 use Rattle.netlist.specs.Words.{inputsOf, gatesOf, gatePlace, gateAt, gatesAt, netOf}
 use Rattle.netlist.specs.Check.{gateLimit}
 use Rattle.netlist.specs.Sound.{Sound}
 use Rattle.netlist.proofs.Gates.{operands-low}
-use Rattle.netlist.proofs.Sim.{length-snoc, run-append, run-length, step-front, each-map}
+use Rattle.netlist.proofs.Sim.{length-snoc, run-append, run-length, step-front}
 use Rattle.netlist.proofs.Glued.{map-append, map-agree, at-le-max}
 use Rattle.netlist.proofs.Words.{gates-length, gates-snoc, sound-valid}
 use Rattle.meter.specs.Levels.{levelCount}
-use Rattle.meter.specs.Passes.{deepest, depthsTo, Lent}
+use Rattle.meter.specs.Passes.{depthsTo, Lent}
 
 -- Lists of zeros.
 zeros-le : (n k : ℕ) → getD (replicate n 0) k 0 ≤ 0
@@ -94,31 +94,59 @@ unfolding over
 step-over front old g u = step-front depAlg front _ g u
 
 -- For the loop over the gates: it starts at the inputs, each operand stands, and one more depth is stored.
-pub gates-start : {net : List ℕ} {i n : ℕ} {ds : List ℕ} → Lent net i n ds → ds ≡ over (replicate i 0) ds → ds ≡ over (depthsTo net 0) ds
+front-stands : (a b old : List ℕ) → over a (over (a ++ b) old) ≡ over (a ++ b) old
+unfolding over
+front-stands a b old =
+    let rest = drop (length (a ++ b)) old in
+    ap (λ (l : List ℕ). a ++ drop (length a) l) (append-assoc a b rest)
+    ∙ ap (λ (l : List ℕ). a ++ l) (drop-at a (b ++ rest) (length a) refl)
+    ∙ sym (append-assoc a b rest)
+
+pub gates-start : {net : List ℕ} {i n : ℕ} {ds : List ℕ} → Lent net i n ds → ds ≡ over (replicate (i + n) 0) ds → ds ≡ over (depthsTo net 0) ds
 unfolding depthsTo
-gates-start {net} {i} {n} {ds} s e = e ∙ ap (λ (k : ℕ). over (replicate k 0) ds) (s .inputs)
+gates-start {net} {i} {n} {ds} s z =
+    let e : ds ≡ over (replicate i 0 ++ replicate n 0) ds = z ∙ ap (λ (l : List ℕ). over l ds) (sym (replicate-append-replicate i n 0)) in
+    e
+    ∙ sym (front-stands (replicate i 0) (replicate n 0) ds)
+    ∙ ap (over (replicate i 0)) (sym e)
+    ∙ ap (λ (k : ℕ). over (replicate k 0) ds) (s .inputs)
+
+-- Wire 0 has depth 0: it is an input, or a gate over no wires.
+snoc-flat : (v : List ℕ) (g : Gate) → Uses (length v) g → getD v 0 0 ≡ 0 → getD (v ++ step depAlg v g ∷ []) 0 0 ≡ 0
+snoc-flat [] Zero u f = refl
+snoc-flat [] One u f = refl
+snoc-flat [] (Not a) u f = absurd (omega (arith, u))
+snoc-flat [] (Xor a b) u f = absurd (omega (arith, u .0))
+snoc-flat [] (And a b) u f = absurd (omega (arith, u .0))
+snoc-flat [] (Mux a b c) u f = absurd (omega (arith, u .0))
+snoc-flat (x ∷ v) g u f = f
+
+first-flat : (net : List ℕ) → Sound net → (g : ℕ) → g ≤ gatesOf net → getD (depthsTo net g) 0 0 ≡ 0
+first-flat net s zero h = omega (arith, depths-none net 0)
+first-flat net s (suc g) h =
+    let u : Uses (length (depthsTo net g)) (gateAt net (gatePlace g)) = rw (depths-length net g) (s .uses g (omega arith)) in
+    subst (λ (n : ℕ). getD (depthsTo net n) 0 0 ≡ 0) (add-one g)
+    (rw (depths-more net g) (snoc-flat (depthsTo net g) (gateAt net (gatePlace g)) u (first-flat net s g (omega arith))))
+
+over-flat : (front old : List ℕ) → getD front 0 0 ≡ 0 → getD old 0 0 ≡ 0 → getD (over front old) 0 0 ≡ 0
+unfolding over
+over-flat [] old f o = o
+over-flat (x ∷ front) old f o = f
 
 -- the depth that the words k, a, b, c of a gate give, where wires have the depths v
-deep-right : (k a b c : ℕ) (v : List ℕ) → k ≤ 5
-    → deepest k (getD v a 0) (getD v b 0) (getD v c 0) + k / 4 ≡ step depAlg v (gateOf k a b c)
-unfolding deepest gateOf takenOf
-deep-right zero a b c v h = refl
-deep-right (suc zero) a b c v h = refl
-deep-right (suc (suc zero)) a b c v h = omega arith
-deep-right (suc (suc (suc zero))) a b c v h = omega arith
-deep-right (suc (suc (suc (suc zero)))) a b c v h = omega arith
-deep-right (suc (suc (suc (suc (suc zero))))) a b c v h = omega arith
-deep-right (suc (suc (suc (suc (suc (suc k)))))) a b c v h = absurd (omega arith)
+flat : (v : List ℕ) (a : ℕ) → getD v 0 0 ≡ 0 → a ≡ 0 → getD v a 0 ≡ 0
+flat v a f e = rw e f
 
-deep-low : (k a b c m : ℕ) (v : List ℕ) → k ≤ 5 → Each (λ i. getD v i 0 ≤ m) (gateOf k a b c) → deepest k (getD v a 0) (getD v b 0) (getD v c 0) ≤ m
-unfolding deepest gateOf takenOf
-deep-low zero a b c m v h u = omega arith
-deep-low (suc zero) a b c m v h u = omega arith
-deep-low (suc (suc zero)) a b c m v h u = omega (arith, u)
-deep-low (suc (suc (suc zero))) a b c m v h u = omega (arith, u)
-deep-low (suc (suc (suc (suc zero)))) a b c m v h u = omega (arith, u)
-deep-low (suc (suc (suc (suc (suc zero))))) a b c m v h u = omega (arith, u)
-deep-low (suc (suc (suc (suc (suc (suc k)))))) a b c m v h u = absurd (omega arith)
+deep-right : (k a b c : ℕ) (v : List ℕ) → getD v 0 0 ≡ 0 → gateWords (gateOf k a b c) ≡ k ∷ a ∷ b ∷ c ∷ []
+    → max (getD v a 0) (max (getD v b 0) (getD v c 0)) + k / 4 ≡ step depAlg v (gateOf k a b c)
+unfolding gateOf takenOf
+deep-right zero a b c v f e = omega (arith, flat v a f (cc), flat v b f (cc), flat v c f (cc))
+deep-right (suc zero) a b c v f e = omega (arith, flat v a f (cc), flat v b f (cc), flat v c f (cc))
+deep-right (suc (suc zero)) a b c v f e = omega (arith, flat v b f (cc), flat v c f (cc))
+deep-right (suc (suc (suc zero))) a b c v f e = omega (arith, flat v c f (cc))
+deep-right (suc (suc (suc (suc zero)))) a b c v f e = omega (arith, flat v c f (cc))
+deep-right (suc (suc (suc (suc (suc zero))))) a b c v f e = omega arith
+deep-right (suc (suc (suc (suc (suc (suc k)))))) a b c v f e = let h : 0 ≡ suc (suc (suc (suc (suc (suc k))))) = cc in absurd (omega arith)
 
 -- a gate's words are of one of the six kinds
 kind-low : (g : Gate) (k a b c : ℕ) → gateWords g ≡ k ∷ a ∷ b ∷ c ∷ [] → k ≤ 5
@@ -129,37 +157,45 @@ kind-low (Xor x y) k a b c e = let h : k ≡ 3 = cc in omega arith
 kind-low (And x y) k a b c e = let h : k ≡ 4 = cc in omega arith
 kind-low (Mux x y z) k a b c e = let h : k ≡ 5 = cc in omega arith
 
-module _ {net : List ℕ} {i n : ℕ} {old : List ℕ} (s : Lent net i n old) (g : ℕ) (less : g < n) {out : List ℕ} (e : out ≡ over (depthsTo net g) old) where
+module _ {net : List ℕ} {i n : ℕ} {old : List ℕ} (s : Lent net i n old) (z : old ≡ over (replicate (i + n) 0) old) (g : ℕ) (less : g < n) {out : List ℕ} (e : out ≡ over (depthsTo net g) old) where
   front-length : length (depthsTo net g) ≡ i + g
   front-length = omega (arith, depths-length net g, s .inputs)
 
-  uses : Uses (length (depthsTo net g)) (gateAt net (gatePlace g))
-  uses = let e′ : length (depthsTo net g) ≡ inputsOf net + g = depths-length net g in rw e′ (s .sound .uses g (omega (arith, s .gates)))
+  there : g < gatesOf net
+  there = omega (arith, s .gates)
 
   -- no operand word is past the gate's own wire
   pub operands : (getD net (gatePlace g + 1) 0 ≤ i + g) × (getD net (gatePlace g + 2) 0 ≤ i + g) × (getD net (gatePlace g + 3) 0 ≤ i + g)
-  operands =
-      let h : g < gatesOf net = omega (arith, s .gates) in
-      rw (s .inputs) (operands-low _ _ _ _ _ (s .sound .uses g h) (s .sound .whole g h))
+  operands = rw (s .inputs) (operands-low _ _ _ _ _ (s .sound .uses g there) (s .sound .whole g there))
 
   pub kind : getD net (gatePlace g) 0 ≤ 5
-  kind = kind-low (gateAt net (gatePlace g)) _ _ _ _ (s .sound .whole g (omega (arith, s .gates)))
+  kind = kind-low (gateAt net (gatePlace g)) _ _ _ _ (s .sound .whole g there)
 
-  pub gate-low : deepest (getD net (gatePlace g) 0) (getD out (getD net (gatePlace g + 1) 0) 0) (getD out (getD net (gatePlace g + 2) 0) 0) (getD out (getD net (gatePlace g + 3) 0) 0) ≤ gateLimit
+  wire-zero : getD out 0 0 ≡ 0
+  wire-zero =
+      let o : getD old 0 0 ≡ 0 =
+      ap (λ (l : List ℕ). getD l 0 0) z
+      ∙ over-at (replicate (i + n) 0) old 0 (omega (arith, length-replicate {A = ℕ} (i + n) 0))
+      ∙ getD-replicate (i + n) 0 0 0 (omega arith) in
+      rw e (over-flat (depthsTo net g) old (first-flat net (s .sound) g (omega (arith, there))) o)
+
+  deep : max (getD out (getD net (gatePlace g + 1) 0) 0) (max (getD out (getD net (gatePlace g + 2) 0) 0) (getD out (getD net (gatePlace g + 3) 0) 0)) + getD net (gatePlace g) 0 / 4
+      ≡ step depAlg (depthsTo net g) (gateAt net (gatePlace g))
+  deep =
+      let u : Uses (length (depthsTo net g)) (gateAt net (gatePlace g)) = rw (depths-length net g) (s .sound .uses g there) in
+      deep-right _ _ _ _ out wire-zero (s .sound .whole g there)
+      ∙ ap (λ (o : List ℕ). step depAlg o (gateAt net (gatePlace g))) e
+      ∙ step-over (depthsTo net g) old (gateAt net (gatePlace g)) u
+
+  pub gate-low : max (getD out (getD net (gatePlace g + 1) 0) 0) (max (getD out (getD net (gatePlace g + 2) 0) 0) (getD out (getD net (gatePlace g + 3) 0) 0)) ≤ gateLimit
   gate-low =
-      deep-low _ _ _ _ gateLimit out kind
-      (each-map (gateAt net (gatePlace g))
-      (λ a k. let r : getD out a 0 ≡ getD (depthsTo net g) a 0 = rw e (over-at (depthsTo net g) old a k) in
-      omega (arith, depths-le net g a, s .gates, s .sound .limits .gates))
-      uses)
+      omega (arith, deep, step-le (depthsTo net g) g (gateAt net (gatePlace g)) (depths-le net g), there, s .sound .limits .gates)
 
   pub gate-more : {v : ℕ}
-      → v ≡ deepest (getD net (gatePlace g) 0) (getD out (getD net (gatePlace g + 1) 0) 0) (getD out (getD net (gatePlace g + 2) 0) 0) (getD out (getD net (gatePlace g + 3) 0) 0) + getD net (gatePlace g) 0 / 4
+      → v ≡ max (getD out (getD net (gatePlace g + 1) 0) 0) (max (getD out (getD net (gatePlace g + 2) 0) 0) (getD out (getD net (gatePlace g + 3) 0) 0)) + getD net (gatePlace g) 0 / 4
       → set out (i + g) v ≡ over (depthsTo net (g + 1)) old
   gate-more {v} h =
-      let d = gateAt net (gatePlace g) in
-      let deep : v ≡ step depAlg (depthsTo net g) d = h ∙ deep-right _ _ _ _ out kind ∙ ap (λ (o : List ℕ). step depAlg o d) e ∙ step-over (depthsTo net g) old d uses in
-      let whole : depthsTo net g ++ v ∷ [] ≡ depthsTo net (g + 1) = rw deep (sym (depths-more net g)) in
+      let whole : depthsTo net g ++ v ∷ [] ≡ depthsTo net (g + 1) = rw (h ∙ deep) (sym (depths-more net g)) in
       rw e
       (over-next (depthsTo net g) old (i + g) v front-length (omega (arith, s .room))
       ∙ ap (λ (f : List ℕ). over f old) whole)
@@ -222,14 +258,14 @@ outs-depth net old s =
     (λ i h. over-at (depths (netOf net)) old i (omega (arith, depths-count net, gates-length net 3 (gatesOf net)))))
 
 -- For the two passes that fill the depths: the first leaves what the second asks, and both together fill.
-module _ {net : List ℕ} {i g : ℕ} {ds mid : List ℕ} (s : Lent net i g ds) (e : mid ≡ over (replicate i 0) ds) where
-  pub inputs-stand : Lent net i g mid × (mid ≡ over (replicate i 0) mid)
-  inputs-stand =
-      let long : length mid ≡ length ds = ap length e ∙ length-over (replicate i 0) ds (omega (arith, length-replicate {A = ℕ} i 0, s .room)) in
-      (record { sound = s .sound; inputs = s .inputs; gates = s .gates; room = omega (arith, s .room) }, over-stands (replicate i 0) ds e)
+module _ {net : List ℕ} {i g : ℕ} {ds mid : List ℕ} (s : Lent net i g ds) (e : mid ≡ over (replicate (i + g) 0) ds) where
+  pub zeros-stand : Lent net i g mid × (mid ≡ over (replicate (i + g) 0) mid)
+  zeros-stand =
+      let long : length mid ≡ length ds = ap length e ∙ length-over (replicate (i + g) 0) ds (omega (arith, length-replicate {A = ℕ} (i + g) 0, s .room)) in
+      (record { sound = s .sound; inputs = s .inputs; gates = s .gates; room = omega (arith, s .room) }, over-stands (replicate (i + g) 0) ds e)
 
   pub both-fill : {new : List ℕ} → new ≡ over (depthsTo net g) mid → new ≡ over (depthsTo net g) ds
   both-fill h =
       h
       ∙ ap (over (depthsTo net g)) e
-      ∙ over-over (replicate i 0) (depthsTo net g) ds (omega (arith, length-replicate {A = ℕ} i 0, depths-length net g, s .inputs))
+      ∙ over-over (replicate (i + g) 0) (depthsTo net g) ds (omega (arith, length-replicate {A = ℕ} (i + g) 0, depths-length net g, s .inputs))

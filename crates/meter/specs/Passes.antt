@@ -1,10 +1,8 @@
 -- The passes that measure an accepted netlist: what each is lent, and what it leaves.
-use Prim.Native.Nat.{ℕ, _+_, _≤_, max}
+use Prim.Native.Nat.{ℕ, _+_, _≤_}
 use mathlib.Core.Path.{_≡_}
 use mathlib.Core.List.{List}
 use lib.ListN.{length, replicate}
-use lib.Dec.{ltb}
-use Rattle.answer.specs.Choose.{choose}
 use Rattle.answer.specs.Answers.{ifDone}
 use Rattle.answer.specs.Fronts.{left}
 use Rattle.netlist.specs.Net.{run, depAlg, depths, depth}
@@ -13,10 +11,6 @@ use Rattle.netlist.specs.Sound.{Sound}
 use Rattle.meter.specs.declared.Measured.{Measured}
 use Rattle.meter.specs.Levels.{levelCount}
 use Rattle.meter.specs.Meter.{depthsAnswer}
-
--- the largest of the depths x, y and z of the operand words of a gate of kind k, of those that it uses
-unfoldable pub deepest : ℕ → ℕ → ℕ → ℕ → ℕ
-deepest k x y z = max (choose (ltb 1 k) x 0) (max (choose (ltb 2 k) y 0) (choose (ltb 4 k) z 0))
 
 -- the depths of the inputs and of the first g gates
 unfoldable pub depthsTo : List ℕ → ℕ → List ℕ

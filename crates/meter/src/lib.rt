@@ -11,14 +11,13 @@ ghost use mathlib.Core.List.{map};
 ghost use Prim.Native.Nat.{ℕ, _+_, _/_, _≤_, _<_, max};
 ghost use lib.ListN.{length, getD, take, drop, replicate};
 ghost use lib.Dec.{eqb};
-ghost use Rattle.answer.specs.Choose.{choose};
 ghost use Rattle.answer.specs.Fronts.{over};
 ghost use Rattle.netlist.specs.Net.{at, depAlg, maxOf};
 ghost use Rattle.netlist.specs.Words.{inputsOf, gatePlace};
 ghost use Rattle.netlist.specs.Check.{gateLimit};
 ghost use Rattle.meter.specs.Levels.{one, andKind, muxKind, kindCount, levelsBelow, overLevels};
 ghost use Rattle.meter.specs.Meter.{depthsAnswer, MeteredAs};
-ghost use Rattle.meter.specs.Passes.{deepest, depthsTo, Lent, MeasuredAs};
+ghost use Rattle.meter.specs.Passes.{depthsTo, Lent, MeasuredAs};
 ghost use Rattle.meter.specs.Counted.{noPlan, PlannedAs, spotOf, noGates, tallied, Countable, Tallies};
 
 // A level record: the AND gates and the MUX gates of one depth.
@@ -65,25 +64,14 @@ fn larger(a: u32, b: u32) -> u32
     if a < b { b } else { a }
 }
 
-// The depth of an operand, 0 where it is not used.
-fn counted(used: bool, depth: u32) -> u32
-    ensures { λ r. ⌜ r ≡ choose used depth 0 ⌝ }
-{
-    if used { depth } else { 0 }
-}
-
-// The depth of a gate of the given kind whose operand words name wires of depth x, y and z; those that it
-// does not use do not count. Kinds 2 to 5 use a, 3 to 5 use b, and 5 uses c; kinds 4 and 5, AND and MUX, are
-// one deeper than their deepest operand. The kind is a number here, since a branch on it would be dear:
-// kinds come in no order.
+// The depth of a gate of the given kind whose operand words name wires of depth x, y and z. An unused one is
+// 0, and wire 0 has depth 0, so that it does not count. Kinds 4 and 5, AND and MUX, are one deeper than their
+// deepest operand.
 fn gate_depth(kind: u32, x: u32, y: u32, z: u32) -> u32
-    requires { ⌜ (kind ≤ 5) × (deepest kind x y z ≤ gateLimit) ⌝ }
-    ensures { λ r. ⌜ r ≡ deepest kind x y z + kind / 4 ⌝ }
+    requires { ⌜ (kind ≤ 5) × (max x (max y z) ≤ gateLimit) ⌝ }
+    ensures { λ r. ⌜ r ≡ max x (max y z) + kind / 4 ⌝ }
 {
-    let first = counted(1 < kind, x);
-    let second = counted(2 < kind, y);
-    let third = counted(4 < kind, z);
-    larger(first, larger(second, third)) + kind / 4
+    larger(x, larger(y, z)) + kind / 4
 }
 
 // The first count words 0.
@@ -98,9 +86,9 @@ fn clear(list: &mut [u32], count: usize)
     }
 }
 
-// The gates' depths, after those of the inputs, which stand.
+// The gates' depths, after those of the inputs, where all depths stand at 0.
 fn put_gates(net: &[u32], depths: &mut [u32], inputs: usize, gates: usize)
-    requires { ⌜ (Lent (now net) inputs gates (now depths)) × (now depths ≡ over (replicate inputs 0) (now depths)) ⌝ }
+    requires { ⌜ (Lent (now net) inputs gates (now depths)) × (now depths ≡ over (replicate (inputs + gates) 0) (now depths)) ⌝ }
     ensures { λ _. ⌜ now (depths .exit) ≡ over (depthsTo (now (net .entry)) gates) (now (depths .entry)) ⌝ }
 {
     let mut g: usize = 0;
@@ -117,12 +105,13 @@ fn put_gates(net: &[u32], depths: &mut [u32], inputs: usize, gates: usize)
     }
 }
 
-// The depths of all wires.
+// The depths of all wires. The gates' stand at 0 too at first: wire 0 may be a gate, of which a gate's unused
+// operand words read the depth.
 fn put_depths(net: &[u32], depths: &mut [u32], inputs: usize, gates: usize)
     requires { ⌜ Lent (now net) inputs gates (now depths) ⌝ }
     ensures { λ _. ⌜ now (depths .exit) ≡ over (depthsTo (now (net .entry)) gates) (now (depths .entry)) ⌝ }
 {
-    clear(depths, inputs);
+    clear(depths, inputs + gates);
     put_gates(net, depths, inputs, gates);
 }
 

@@ -3,6 +3,7 @@ use crate::put::put_bytes;
 use crate::put::put_decimal;
 use crate::put::put_named;
 use netlist::gate::Gate;
+use netlist::gate::Taken;
 ghost use mathlib.Core.Path.{_≡_};
 ghost use Prim.Native.Nat.{_+_, _≤_};
 ghost use Rattle.netlist.specs.Words.{gateAt, gatesAt};
@@ -42,7 +43,8 @@ fn put_gate(out: &mut [u8], at: usize, wire: u32, gate: Gate) -> usize
     put_bytes(out, j, b"\n")
 }
 
-// The gate whose words begin at a place.
+// The gate whose words begin at a place. Every kind of an emitted netlist is known; an unknown one would be
+// printed as ZERO.
 fn gate_at(words: &[u32], place: usize) -> Gate
     requires { ⌜ place ≤ 4294967296 ⌝ }
     ensures { λ r. ⌜ r ≡ gateAt (now (words .entry)) place ⌝ }
@@ -51,7 +53,11 @@ fn gate_at(words: &[u32], place: usize) -> Gate
     let a = answer::word_at(words, place + 1);
     let b = answer::word_at(words, place + 2);
     let c = answer::word_at(words, place + 3);
-    netlist::gate::decoded(kind, a, b, c)
+    let t = netlist::gate::take_apart(kind, a, b, c);
+    let Taken::Valid(gate) = t else {
+        return Gate::Zero;
+    };
+    gate
 }
 
 // The lines of all gates of a netlist's words, the first of which is the wire after the inputs.

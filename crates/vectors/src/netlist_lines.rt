@@ -4,6 +4,8 @@ use crate::text::say;
 use crate::text::say_bits;
 use crate::text::say_number;
 use answer::Answer;
+use netlist::gate::Gate;
+use netlist::gate::Taken;
 
 const NOT: u32 = 2;
 
@@ -111,36 +113,44 @@ fn print_edges() {
     one_hot(0, &mut none, &[]);
 }
 
-fn say_kind(kind: u32) {
-    match kind {
-        0 => say(b"ZERO"),
-        1 => say(b"ONE"),
-        2 => say(b"NOT"),
-        3 => say(b"XOR"),
-        4 => say(b"AND"),
-        _ => say(b"MUX"),
+fn say_kind(gate: Gate) {
+    match gate {
+        Gate::Zero => say(b"ZERO"),
+        Gate::One => say(b"ONE"),
+        Gate::Not(_) => say(b"NOT"),
+        Gate::Xor(_, _) => say(b"XOR"),
+        Gate::And(_, _) => say(b"AND"),
+        Gate::Mux(_, _, _) => say(b"MUX"),
     }
 }
 
-fn say_operand(net: &[u32], at: usize, used: bool) {
+fn say_operand(used: bool, wire: u32) {
     if used {
         say(b" ");
-        say_number(answer::word_at(net, at) as usize);
+        say_number(wire as usize);
     }
 }
 
 // A gate's wire, kind and used operands.
-fn say_gate(net: &[u32], gate: u32) {
-    let start = 3 + 4 * (gate as usize);
+fn say_gate(net: &[u32], g: u32) {
+    let start = 3 + 4 * (g as usize);
     let kind = answer::word_at(net, start);
-    let uses = netlist::gate::uses(netlist::gate::decoded(kind, 0, 0, 0));
+    let a = answer::word_at(net, start + 1);
+    let b = answer::word_at(net, start + 2);
+    let c = answer::word_at(net, start + 3);
     say(b" ");
-    say_number(answer::word_at(net, 0) as usize + gate as usize);
+    say_number(answer::word_at(net, 0) as usize + g as usize);
     say(b" ");
-    say_kind(kind);
-    say_operand(net, start + 1, 0 < uses);
-    say_operand(net, start + 2, 1 < uses);
-    say_operand(net, start + 3, 2 < uses);
+    let t = netlist::gate::take_apart(kind, a, b, c);
+    let Taken::Valid(gate) = t else {
+        say(b"no kind;");
+        return;
+    };
+    say_kind(gate);
+    let used = netlist::gate::used(gate);
+    say_operand(used % 2 == 1, a);
+    say_operand(used / 2 % 2 == 1, b);
+    say_operand(used / 4 == 1, c);
     say(b";");
 }
 

@@ -1,12 +1,15 @@
-use Prim.Native.Nat.{_+_, _≤_, _-_}
+use Prim.Native.Nat.{_+_, _≤_, _<_, _-_}
 use mathlib.Core.Path.{_≡_, refl, ap, _∙_}
 use mathlib.Core.List.{map}
 use native.Mathlib.Omega.{arith}
 use lib.ListN.{length}
 use Rattle.answer.specs.Fronts.{over}
 use Rattle.answer.proofs.Over.{length-over}
-use Rattle.netlist.specs.Words.{gatesWords, gatesAt}
+use Rattle.netlist.specs.declared.gate.Taken.the-variants.{Valid}
+use Rattle.netlist.specs.Gates.{usesOf}
+use Rattle.netlist.specs.Words.{gatesOf, gatePlace, gatesWords, gateAt, gatesAt}
 use Rattle.netlist.specs.Glue.{ren, thru}
+use Rattle.netlist.proofs.Gates.{UsedBits, used-bits, taken-known, not-unknown, same-gate}
 use Rattle.glue.proofs.Parts.{written-length, words-more, small-gate}
 use borrow.Author.Needs.{needs}
 use Rattle.glue.proofs.put_gates.Statement.{statement}
@@ -17,6 +20,20 @@ Inv-loop second gates outs base out₀ g₀ out g = (out ≡ over (gatesWords (m
 
 abbrev μ-loop : tie.MeasureT-loop
 μ-loop second gates outs base out₀ g₀ out g = gates - g
+
+-- one of the second netlist's gates, which is of a known kind, and the bits of the operands that it uses
+less : (c : tie.After-take-apart Inv-loop μ-loop) → c .before .before .before .before .before .before .loop .g < gatesOf (c .before .before .before .before .before .before .before .before .before .before .args .second .now)
+less c = omega (arith, c .before .before .before .before .before .loop-test .taken, c .before .before .before .before .before .before .before .before .before .before .pre .1)
+
+known : (c : tie.After-take-apart Inv-loop μ-loop) → c .take-apart .result ≡ Valid (gateAt (c .before .before .before .before .before .before .before .before .before .before .args .second .now) (gatePlace (c .before .before .before .before .before .before .loop .g)))
+known c = c .take-apart .ensures ∙ taken-known _ _ _ _ (c .before .before .before .before .before .before .before .before .before .before .pre .0 .sound .whole _ (less c))
+
+bits : (c : tie.After-used Inv-loop μ-loop) →
+    let t = c .before .before .before .before in
+    UsedBits (usesOf (gateAt (t .before .before .before .before .before .before .before .before .before .before .args .second .now) (gatePlace (t .before .before .before .before .before .before .loop .g)))) (c .used .result)
+bits c =
+    let t = c .before .before .before .before in
+    rw (c .used .ensures, same-gate (c .before .before .t .given .1) (known t)) (used-bits (gateAt (t .before .before .before .before .before .before .before .before .before .before .args .second .now) (gatePlace (t .before .before .before .before .before .before .loop .g))))
 
 loop-holds : tie.Need-loop-holds Inv-loop μ-loop
 unfolding over
@@ -34,50 +51,67 @@ mul-kind c = search needs
 shared-slice-read-kind : tie.Need-shared-slice-read-kind Inv-loop μ-loop
 shared-slice-read-kind c = search needs
 
-add-operand : tie.Need-add-operand Inv-loop μ-loop
-add-operand c = search needs
+add-i : tie.Need-add-i Inv-loop μ-loop
+add-i c = search needs
 
-mul-operand : tie.Need-mul-operand Inv-loop μ-loop
-mul-operand c = search needs
+mul-i : tie.Need-mul-i Inv-loop μ-loop
+mul-i c = search needs
 
-shared-slice-read-operand : tie.Need-shared-slice-read-operand Inv-loop μ-loop
-shared-slice-read-operand c = search needs
+shared-slice-read-i : tie.Need-shared-slice-read-i Inv-loop μ-loop
+shared-slice-read-i c = search needs
 
-operand-requires : tie.Need-operand-requires Inv-loop μ-loop
-operand-requires c κs =
-    let t = c .before .before in
-    let s = t .before .before .before .before .before in
-    small-gate (s .args .second .now) (s .args .base) _ (t .before .loop .g) (s .pre .0) (search needs) .0
+add-j : tie.Need-add-j Inv-loop μ-loop
+add-j c = search needs
 
-add-operand-2 : tie.Need-add-operand-2 Inv-loop μ-loop
-add-operand-2 c = search needs
+mul-j : tie.Need-mul-j Inv-loop μ-loop
+mul-j c = search needs
 
-mul-operand-2 : tie.Need-mul-operand-2 Inv-loop μ-loop
-mul-operand-2 c = search needs
+shared-slice-read-j : tie.Need-shared-slice-read-j Inv-loop μ-loop
+shared-slice-read-j c = search needs
 
-shared-slice-read-operand-2 : tie.Need-shared-slice-read-operand-2 Inv-loop μ-loop
-shared-slice-read-operand-2 c = search needs
+add-k : tie.Need-add-k Inv-loop μ-loop
+add-k c = search needs
 
-operand-requires-2 : tie.Need-operand-requires-2 Inv-loop μ-loop
-operand-requires-2 c κs =
-    let t = c .before .before .before .before in
-    let s = t .before .before .before .before .before in
-    small-gate (s .args .second .now) (s .args .base) _ (t .before .loop .g) (s .pre .0) (search needs) .1
+mul-k : tie.Need-mul-k Inv-loop μ-loop
+mul-k c = search needs
 
-add-operand-3 : tie.Need-add-operand-3 Inv-loop μ-loop
-add-operand-3 c = search needs
+shared-slice-read-k : tie.Need-shared-slice-read-k Inv-loop μ-loop
+shared-slice-read-k c = search needs
 
-mul-operand-3 : tie.Need-mul-operand-3 Inv-loop μ-loop
-mul-operand-3 c = search needs
+take-apart-requires : tie.Need-take-apart-requires Inv-loop μ-loop
+take-apart-requires c κs = search needs
 
-shared-slice-read-operand-3 : tie.Need-shared-slice-read-operand-3 Inv-loop μ-loop
-shared-slice-read-operand-3 c = search needs
+enum-known-t : tie.Need-enum-known-t Inv-loop μ-loop
+enum-known-t c = search needs
 
-operand-requires-3 : tie.Need-operand-requires-3 Inv-loop μ-loop
-operand-requires-3 c κs =
-    let t = c .before .before .before .before .before .before in
-    let s = t .before .before .before .before .before in
-    small-gate (s .args .second .now) (s .args .base) _ (t .before .loop .g) (s .pre .0) (search needs) .2
+enum-told : tie.Need-enum-told Inv-loop μ-loop
+enum-told c = search needs
+
+same-length : tie.Need-same-length Inv-loop μ-loop
+same-length c = search needs
+
+returns : tie.Need-returns Inv-loop μ-loop
+returns c = absurd (not-unknown (known (c .before .before)) (c .enum-told .given .1))
+
+used-requires : tie.Need-used-requires Inv-loop μ-loop
+used-requires c κs = search needs
+
+wire-requires : tie.Need-wire-requires Inv-loop μ-loop
+wire-requires c κs =
+    let s = c .before .before .before .before .before .before .before .before .before .before .before .before .before .before in
+    (omega (arith, bits c), s .pre .0 .inputs, small-gate (s .args .second .now) (s .args .outs .now) (s .args .base) _ _ (s .pre .0) (less (c .before .before .before .before)) .0)
+
+wire-requires-2 : tie.Need-wire-requires-2 Inv-loop μ-loop
+wire-requires-2 c κs =
+    let u = c .before in
+    let s = u .before .before .before .before .before .before .before .before .before .before .before .before .before .before in
+    (omega (arith, bits u), s .pre .0 .inputs, small-gate (s .args .second .now) (s .args .outs .now) (s .args .base) _ _ (s .pre .0) (less (u .before .before .before .before)) .1)
+
+wire-requires-3 : tie.Need-wire-requires-3 Inv-loop μ-loop
+wire-requires-3 c κs =
+    let u = c .before .before in
+    let s = u .before .before .before .before .before .before .before .before .before .before .before .before .before .before in
+    (omega (arith, bits u), s .pre .0 .inputs, small-gate (s .args .second .now) (s .args .outs .now) (s .args .base) _ _ (s .pre .0) (less (u .before .before .before .before)) .2)
 
 mul-put-gate : tie.Need-mul-put-gate Inv-loop μ-loop
 mul-put-gate c = search needs
@@ -93,19 +127,21 @@ loop-less c = search needs
 
 loop-again : tie.Need-loop-again Inv-loop μ-loop
 loop-again c =
-    let l = c .before .before .before .before .before .before .before .before .before .before .before .before .loop in
-    let s = c .before .before .before .before .before .before .before .before .before .before .before .before .before .before .before .before in
+    let u = c .before .before .before .before .before .before .before in
+    let l = u .before .before .before .before .before .before .before .before .before .before .loop in
+    let s = u .before .before .before .before .before .before .before .before .before .before .before .before .before .before in
     let a = s .args in
+    let h : l .g < gatesOf (a .second .now) = less (u .before .before .before .before) in
     let e : c .before .before .put-gate .last .0 ≡ over (gatesWords (map (ren (thru (a .outs .now) (a .base))) (gatesAt (a .second .now) 3 (l .g + 1)))) (a .out .now) =
     c .before .before .put-gate .ensures
-    ∙ words-more (a .second .now) (a .outs .now) (a .base) (a .out .now) _ (l .g) (s .pre .0) (search needs) (search needs) (l .inv .0) (c .before .before .before .before .before .before .before .before .operand .ensures) (c .before .before .before .before .before .before .operand2 .ensures) (c .before .before .before .before .operand3 .ensures) in
+    ∙ words-more (a .second .now) (a .outs .now) (a .base) (a .out .now) _ (l .g) (s .pre .0) h (omega (arith, s .pre .0 .space, h)) (l .inv .0) (rw (bits u .0) at (c .before .before .before .before .before .before .wire .ensures)) (rw (bits u .1) at (c .before .before .before .before .before .wire2 .ensures)) (rw (bits u .2) at (c .before .before .before .before .wire3 .ensures)) in
     (e, search needs, ap length e ∙ length-over _ (a .out .now) (omega (arith, written-length (a .second .now) (a .outs .now) (a .base) (a .out .now) (l .g + 1))))
 
-same-length : tie.Need-same-length Inv-loop μ-loop
-same-length c = search needs
+same-length-2 : tie.Need-same-length-2 Inv-loop μ-loop
+same-length-2 c = search needs
 
-returns : tie.Need-returns Inv-loop μ-loop
-returns c =
+returns-2 : tie.Need-returns-2 Inv-loop μ-loop
+returns-2 c =
     let e : c .before .loop .g ≡ c .before .before .before .before .before .args .gates = omega arith in
     rw e at (c .before .loop .inv .0)
 
@@ -120,22 +156,28 @@ put-gates-spec =
     add-at
     mul-kind
     shared-slice-read-kind
-    add-operand
-    mul-operand
-    shared-slice-read-operand
-    operand-requires
-    add-operand-2
-    mul-operand-2
-    shared-slice-read-operand-2
-    operand-requires-2
-    add-operand-3
-    mul-operand-3
-    shared-slice-read-operand-3
-    operand-requires-3
+    add-i
+    mul-i
+    shared-slice-read-i
+    add-j
+    mul-j
+    shared-slice-read-j
+    add-k
+    mul-k
+    shared-slice-read-k
+    take-apart-requires
+    enum-known-t
+    enum-told
+    same-length
+    returns
+    used-requires
+    wire-requires
+    wire-requires-2
+    wire-requires-3
     mul-put-gate
     put-gate-requires
     add-g
     loop-less
     loop-again
-    same-length
-    returns)
+    same-length-2
+    returns-2)

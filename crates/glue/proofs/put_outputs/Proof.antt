@@ -27,7 +27,9 @@ shared-slice-read-wire : tie.Need-shared-slice-read-wire Inv-loop μ-loop
 shared-slice-read-wire c = search needs
 
 wire-requires : tie.Need-wire-requires Inv-loop μ-loop
-wire-requires c κs = c .before .before .before .before .before .before .pre .1 (c .before .before .loop .o) (search needs)
+wire-requires c κs =
+    let p = c .before .before .before .before .before .before .pre in
+    (search needs, p .2, p .1 (c .before .before .loop .o) (search needs))
 
 mul-out : tie.Need-mul-out Inv-loop μ-loop
 mul-out c = search needs

@@ -58,7 +58,8 @@ put-outputs-requires c κs =
     let out = c .before .before .before .before .put-gates .last .1 .1 .1 .1 .0 in
     let len : length out ≡ length (s .args .out .now) = kept-length _ _ (c .before .before .before .before .put-gates .ensures) (omega (arith, written-length b (s .args .outs .now) (s .args .base) (s .args .out .now) (gatesOf b))) in (
       omega (arith, tail-room (gatePlace (gatesOf b)) b, tail-room (4 * gatesOf b) out, s .pre .space, s .pre .sound .size),
-      rw (tail-is (gatePlace (gatesOf b)) b) (small-outs b (s .args .base) _ (s .pre)),
+      rw (tail-is (gatePlace (gatesOf b)) b) (small-outs b (s .args .outs .now) (s .args .base) _ (s .pre)),
+      s .pre .inputs,
     )
 
 same-length : tie.Need-same-length

@@ -104,6 +104,7 @@ put-second-requires c κs =
     record {
       sound = s .pre .second;
       few = omega (arith, s .pre .first .limits);
+      inputs = omega (arith, tail-room (gatePlace (gatesOf a)) a, s .pre .first .size, s .pre .first .limits);
       space = omega (arith, tail-room (gatePlace (gatesOf a)) mid, length-over (firstWords a (s .args .second .now)) (s .args .out .now) (omega (arith, firstWords-length a (s .args .second .now) (s .pre .first), s .pre .space)), s .pre .space);
     }
 

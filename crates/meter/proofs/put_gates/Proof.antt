@@ -23,7 +23,7 @@ low : (c : tie.In-loop Inv-loop μ-loop) →
     let a = c .before .before .before .before .args in
     let w = a .inputs + l .g in
     (getD (a .net .now) (gatePlace (l .g) + 1) 0 ≤ w) × (getD (a .net .now) (gatePlace (l .g) + 2) 0 ≤ w) × (getD (a .net .now) (gatePlace (l .g) + 3) 0 ≤ w)
-low c = operands (c .before .before .before .before .pre .0) _ (c .loop-test .taken) (c .before .loop .inv .2)
+low c = operands (c .before .before .before .before .pre .0) (c .before .before .before .before .pre .1) _ (c .loop-test .taken) (c .before .loop .inv .2)
 
 loop-holds : tie.Need-loop-holds Inv-loop μ-loop
 loop-holds c = (search needs, search needs, gates-start (c .before .before .pre .0) (c .before .before .pre .1))
@@ -98,7 +98,7 @@ gate-depth-requires : tie.Need-gate-depth-requires Inv-loop μ-loop
 gate-depth-requires c κs =
     let t = c .before .before .before .before .before .before .before in
     let p = t .before .before .before .before .pre in
-    (kind (p .0) (t .before .loop .g) (t .loop-test .taken) (t .before .loop .inv .2), gate-low (p .0) (t .before .loop .g) (t .loop-test .taken) (t .before .loop .inv .2))
+    (kind (p .0) (p .1) (t .before .loop .g) (t .loop-test .taken) (t .before .loop .inv .2), gate-low (p .0) (p .1) (t .before .loop .g) (t .loop-test .taken) (t .before .loop .inv .2))
 
 add-wire : tie.Need-add-wire Inv-loop μ-loop
 add-wire c = search needs
@@ -119,7 +119,7 @@ loop-again : tie.Need-loop-again Inv-loop μ-loop
 loop-again c =
     let t = c .before .before .before .before .before .before .before .before in
     let p = t .before .before .before .before .pre in
-    (search needs, search needs, gate-more (p .0) (t .before .loop .g) (t .loop-test .taken) (t .before .loop .inv .2) (c .gate-depth .ensures))
+    (search needs, search needs, gate-more (p .0) (p .1) (t .before .loop .g) (t .loop-test .taken) (t .before .loop .inv .2) (c .gate-depth .ensures))
 
 same-length : tie.Need-same-length Inv-loop μ-loop
 same-length c = c .before .loop .inv .1
