@@ -1,5 +1,5 @@
 /*
- * The six calls for C, through their header. Expected keystreams: a published vector, and one worked by document 01's rules
+ * The six calls for C, through their header. Expected keystreams: a published vector, and one worked by the rules
  * apart from this code. Every list is lent from an allocation of its own and exactly its length, so that a memory checker
  * sees a byte read or written past its end.
  */
@@ -239,7 +239,7 @@ static void test_files(void)
     static const uint8_t and_file[36] = "NH\2\0\0\0\1\0\0\0\1\0\0\0NG\4\0\0\0\0\1\0\0\0\0\0\0\0NO\2\0\0\0";
     static const uint8_t empty_file[14] = {'N', 'H'};
 
-    expect_file("01's example", pass_file, 20, 0, 0);
+    expect_file("the rules' example", pass_file, 20, 0, 0);
     expect_file("an AND", and_file, 35, 0, 0);
     expect_file("no inputs, gates or outputs", empty_file, 14, 0, 0);
 
@@ -613,11 +613,11 @@ static void test_helpers(void)
 {
     expect_answer("three parts", 4 + 256 * 2 + UINT64_C(65536) * 39, 4, 2, 39);
     expect_answer("the largest parts", UINT64_MAX, 255, 255, SALLOWKNOT_MOST_PLACE);
-    expect("the numbers of 01", SALLOWKNOT_DONE == 0 && SALLOWKNOT_RECORD == 2 && SALLOWKNOT_LENGTH == 3 && SALLOWKNOT_BIT == 4
+    expect("the numbers of the rules", SALLOWKNOT_DONE == 0 && SALLOWKNOT_RECORD == 2 && SALLOWKNOT_LENGTH == 3 && SALLOWKNOT_BIT == 4
                                     && SALLOWKNOT_ROOM == 8 && SALLOWKNOT_NETLIST == 9 && SALLOWKNOT_FILE == 12);
-    expect("the sizes of 01", SALLOWKNOT_MOST_BITS == 64 && SALLOWKNOT_KEY_BITS == 128 && SALLOWKNOT_IV_BITS == 128);
-    expect("the numbers of 02", SALLOWKNOT_FRAME == 15 && SALLOWKNOT_ORDER == 16);
-    expect("the sizes of 02", SALLOWKNOT_FRAME_SIZE == 26 && SALLOWKNOT_RECORD_BITS == 64);
+    expect("the sizes of the rules", SALLOWKNOT_MOST_BITS == 64 && SALLOWKNOT_KEY_BITS == 128 && SALLOWKNOT_IV_BITS == 128);
+    expect("the numbers of frames", SALLOWKNOT_FRAME == 15 && SALLOWKNOT_ORDER == 16);
+    expect("the sizes of frames", SALLOWKNOT_FRAME_SIZE == 26 && SALLOWKNOT_RECORD_BITS == 64);
 }
 
 int main(void)

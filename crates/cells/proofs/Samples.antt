@@ -1,4 +1,4 @@
--- Document 01's printed netlist, threshold 2 of 3, and the smallest others.
+-- The rules' printed netlist, threshold 2 of 3, and the smallest others.
 use mathlib.Core.Path.{_≡_, refl}
 use mathlib.Core.List.{[], _∷_}
 use Rattle.netlist.specs.declared.gate.Gate.the-variants.{Zero, One, Not, Xor, And, Mux}

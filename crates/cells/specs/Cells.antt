@@ -1,4 +1,4 @@
--- The one-hot and the threshold netlists. Document 01, "What is emitted", after source document 001, Definitions 12
+-- The one-hot and the threshold netlists. docs/RULES.md, "What is emitted", after paper 001, Definitions 12
 -- and 14. There is a level for each input x1 .. xn; cell(i, j) of level i carries 1 exactly if j of x1 .. xi are 1.
 use Prim.Native.Nat.{ℕ, zero, suc, _+_, _-_, min}
 use mathlib.Core.List.{List, [], _∷_, _++_}

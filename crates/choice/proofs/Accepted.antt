@@ -44,7 +44,7 @@ module _ (inst : ℕ) (draws : List ℕ) (room : ℕ) (s : Sizes) (m : s ≡ siz
   few d =
       omega (arith, length-done 1 (length draws) (s .row) d, ap (λ (t : Sizes). t .row) m, ap (λ (t : Sizes). t .key) m, row-fits inst)
 
--- What document 01 lets a caller lend is accepted, with room for the row.
+-- What the rules let a caller lend is accepted, with room for the row.
 pub choose-accepted : (inst : ℕ) (draws : List ℕ) (room : ℕ) → Drawn inst draws → rowBits inst ≤ room → chooseAnswer inst draws room ≡ Done
 unfolding chooseAnswer pastDraw
 choose-accepted inst draws room d h =

@@ -99,7 +99,7 @@ take-distinct N n s h d =
           (sym (getD-take n s a 0 (omega arith)) ∙ e ∙ getD-take n s b 0 (omega arith));
     }
 
--- Document 01's rows: n distinct key indices.
+-- The rules' rows: n distinct key indices.
 pub chosen-distinct : (N : ℕ) (draws : List ℕ) → DrawsFit N draws → Distinct N (chosen N (length draws) draws)
 unfolding chosen
 chosen-distinct N draws f =

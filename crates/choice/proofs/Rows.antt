@@ -55,7 +55,7 @@ module _ (inst : ℕ) (draws : ℕ → List ℕ) (room : ℕ → ℕ) where
       (eq-or-lt-of-le {n = i} {m = m} (omega arith))
 
   module _ (m : ℕ) (a : Accepted m) where
-    -- Document 01's rows, as the cipher calls take them.
+    -- The rules' rows, as the cipher calls take them.
     pub rows-rowed : Rowed (keyBits inst) n m (rowsOf inst draws m)
     rows-rowed =
         let len = rows-length m a in

@@ -1,4 +1,4 @@
--- Ordered choice of wires from public draws. Document 01: begin with 0..N-1 in order; for i = 0..n-1 swap places
+-- Ordered choice of wires from public draws. docs/RULES.md, "Choice from draws": begin with 0..N-1 in order; for i = 0..n-1 swap places
 -- i and i + draw(i), draw(i) below N-i; the row is the first n places. Lists: 1 the draws, 2 the row.
 use Prim.Native.Nat.{ℕ, zero, suc, _+_, _-_}
 use mathlib.Core.Path.{_≡_}

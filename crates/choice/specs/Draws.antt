@@ -5,7 +5,7 @@ use mathlib.Core.List.{List}
 use lib.ListN.{length, getD}
 use Rattle.instance.specs.Table.{keyBits, rowBits}
 
--- Document 01, "Choice from draws": instances 1 to 5, n draws, draw(i) below N - i.
+-- docs/RULES.md, "Choice from draws": instances 1 to 5, n draws, draw(i) below N - i.
 pub record Drawn (inst : ℕ) (draws : List ℕ) : Type 0 where
   pub least : 1 ≤ inst
   pub most : inst ≤ 5

@@ -1,4 +1,4 @@
-// Ordered choice of wires from public draws: document 01, "Choice from draws". Judged 1, 3, 8, 14; the lists
+// Ordered choice of wires from public draws: docs/RULES.md, "Choice from draws". Judged 1, 3, 8, 14; the lists
 // are the draws and the row.
 use answer::Answer;
 ghost use mathlib.Core.Path.{_≡_};

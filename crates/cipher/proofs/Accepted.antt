@@ -34,7 +34,7 @@ lengths-accepted : (l inst m : ℕ) (idx wh : List ℕ) → Wired inst m idx wh 
 unfolding wiringLengths
 lengths-accepted l inst m idx wh w = both (done-length l _ _ (w .indices)) (done-length (l + 1) _ _ (w .whitening))
 
--- What document 01 lets a caller lend is accepted, with room for the m bits.
+-- What the rules let a caller lend is accepted, with room for the m bits.
 pub keystream-accepted : (inst m : ℕ) (key idx wh : List ℕ) (n : ℕ) → Wired inst m idx wh → Keyed inst key → m ≤ n
     → keystreamAnswer inst m key idx wh n ≡ Done
 unfolding keystreamAnswer

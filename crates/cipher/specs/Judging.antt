@@ -1,4 +1,4 @@
--- What the cipher calls answer, in document 01's order: 1, 2, 3, 4, 5, 6, 7, 8; then the lower list.
+-- What the cipher calls answer, in the rules' order: 1, 2, 3, 4, 5, 6, 7, 8; then the lower list.
 use Prim.Native.Nat.{ℕ, _+_, _*_}
 use mathlib.Core.List.{List}
 use lib.ListN.{length}

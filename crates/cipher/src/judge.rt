@@ -1,4 +1,4 @@
-// What a cipher call is lent, judged in document 01's order. `list` is the indices' place among the call's
+// What a cipher call is lent, judged in the rules' order. `list` is the indices' place among the call's
 // lists; the whitening or IV and the result come after it.
 use answer::Answer;
 ghost use mathlib.Core.Path.{_≡_};

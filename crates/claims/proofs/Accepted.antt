@@ -1,4 +1,4 @@
--- Acceptance of the calls: what document 01 lets a caller lend, with room for the result, is answered with Done, and the
+-- Acceptance of the calls: what the rules let a caller lend, with room for the result, is answered with Done, and the
 -- result stands at the front of its list.
 use Prim.Native.Nat.{ℕ, zero, suc, _+_, _*_, _%_, _<_, _≤_}
 use mathlib.Core.Path.{_≡_, sym, ap, _∙_}

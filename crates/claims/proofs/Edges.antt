@@ -1,4 +1,4 @@
--- Document 01, "Edges, P": its cases in its order, over the definitions that the promises of emit_threshold, emit_one_hot,
+-- docs/RULES.md, "Cases": its cases in its order, over the definitions that the promises of emit_threshold, emit_one_hot,
 -- evaluate, the cipher calls and choose cite; the monomials by 001's vector too.
 use Prim.Native.Nat.{_+_, _%_}
 use mathlib.Core.Path.{_≡_, refl}

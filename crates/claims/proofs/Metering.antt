@@ -67,7 +67,7 @@ glued-metered a b n {r} {s} {t} f x y z =
       omega (arith, mults-is a r (f .first) x, mults-is b s (f .second) y, mults-is (gluedWords a b) t g z, glued-mults a b n f),
     )
 
--- Of what emit_decipher left: document 01's table for instances 1 to 5, the multiplications for each of m bits; Kreyvium's
+-- Of what emit_decipher left: the rules' table for instances 1 to 5, the multiplications for each of m bits; Kreyvium's
 -- multiplications, and its bound of depth at the last output bit, t = m - 1: (1,087 + t) / 82 rounded up.
 pub emitted-metered : (inst m : ℕ) (idx wh out ds : List ℕ) (ls : List Level) {q : Answer} {r : Metered} {out′ ds′ : List ℕ} {ls′ : List Level}
     → Wired inst m idx wh

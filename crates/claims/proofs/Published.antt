@@ -1,4 +1,4 @@
--- Keystream bits are those of FLIP, FiLIP and Kreyvium as published, for the six instances of document 01: over the promise of
+-- Keystream bits are those of FLIP, FiLIP and Kreyvium as published, for the six instances of the rules: over the promise of
 -- cipher::keystream and the papers' own functions.
 use Prim.Native.Nat.{ℕ, _+_, _*_, _%_, _<_, _≤_}
 use mathlib.Core.Path.{_≡_, ap, sym, _∙_}

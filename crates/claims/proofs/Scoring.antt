@@ -1,6 +1,6 @@
 -- Demands 2 and 3 of the calls: what emit_decipher left, evaluated, gives what decipher left; and a scoring netlist glued
 -- behind it gives on key and enciphered record what it gives on the plain record. The wiring, the key and the record are any
--- that document 01 lets a caller lend, and every list has room: that the calls answer Done is said, not supposed.
+-- that the rules let a caller lend, and every list has room: that the calls answer Done is said, not supposed.
 use Prim.Native.Nat.{ℕ, _+_, _≤_}
 use mathlib.Core.Bool.{not}
 use mathlib.Core.Path.{_≡_, refl, sym, ap, _∙_}

@@ -1,4 +1,4 @@
--- What the call of Kreyvium enciphering answers and leaves. Document 01: 2, 3, 4, 8; then the lower list. Its lists are key 1,
+-- What the call of Kreyvium enciphering answers and leaves. docs/RULES.md, "For C": 2, 3, 4, 8; then the lower list. Its lists are key 1,
 -- record 2, IV 3, result 4.
 use Prim.Native.Nat.{ℕ, _-_}
 use mathlib.Core.Path.{_≡_}

@@ -29,7 +29,7 @@ use Rattle.emit.specs.Lent.{Lent}
 use Rattle.emit.specs.Rows.{Wiring}
 use Rattle.emit.proofs.Puts.{words-length}
 
--- What document 01 lets a caller lend is accepted, with room for the netlist's words.
+-- What the rules let a caller lend is accepted, with room for the netlist's words.
 pub wired-accepted : (inst m : ℕ) (idx wh : List ℕ) → Wired inst m idx wh → wiringAnswer inst m idx wh ≡ Done
 unfolding wiringAnswer
 wired-accepted inst m idx wh w =

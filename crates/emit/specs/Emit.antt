@@ -1,4 +1,4 @@
--- What the calls of emission answer and leave. Document 01, "What is emitted" and "Answer numbers".
+-- What the calls of emission answer and leave. docs/RULES.md, "What is emitted" and "Answer numbers".
 use Prim.Native.Nat.{ℕ, _+_, _*_}
 use mathlib.Core.Path.{_≡_}
 use mathlib.Core.Bool.{Bool, true}

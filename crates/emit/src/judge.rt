@@ -1,4 +1,4 @@
-// What emit_decipher is lent, judged in document 01's order, as the cipher calls judge rows and IV. The indices
+// What emit_decipher is lent, judged in the rules' order, as the cipher calls judge rows and IV. The indices
 // are its first list, the whitening or IV the second.
 use answer::Answer;
 ghost use mathlib.Core.Path.{_≡_};

@@ -1,4 +1,4 @@
-// The cells of the one-hot and threshold netlists, level by level over any input wires: document 01, "What is
+// The cells of the one-hot and threshold netlists, level by level over any input wires: docs/RULES.md, "What is
 // emitted". Room is the caller's to see to.
 use crate::put::put_gate;
 ghost use mathlib.Core.Path.{_≡_};

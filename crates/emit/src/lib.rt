@@ -1,4 +1,4 @@
-// Emission of one-hot, threshold and deciphering netlists: document 01, "What is emitted".
+// Emission of one-hot, threshold and deciphering netlists: docs/RULES.md, "What is emitted".
 mod judge;
 mod levels;
 mod nets;

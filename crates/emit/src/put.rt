@@ -5,7 +5,7 @@ ghost use Prim.Native.Nat.{_+_, _≤_};
 ghost use lib.ListN.{length};
 ghost use lib.Seq.{sets};
 
-// Kinds of gates. Document 01, "Netlists".
+// Kinds of gates. docs/RULES.md, "Netlists".
 pub(crate) const ZERO: u32 = 0;
 
 pub(crate) const ONE: u32 = 1;

@@ -1,4 +1,4 @@
-// Kreyvium's deciphering netlist: document 01, "What is emitted". Rounds count from 0, and those from 1,152 on have an
+// Kreyvium's deciphering netlist: docs/RULES.md, "What is emitted". Rounds count from 0, and those from 1,152 on have an
 // output; m is the number of the record's bits.
 //
 // What a round reads is computed from its number. Of each register it reads what entered 66 to 111 rounds ago, or, in the

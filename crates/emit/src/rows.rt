@@ -1,4 +1,4 @@
-// The deciphering netlists of instances 1 to 5: document 01, "What is emitted". Each bit has its NOTs, its
+// The deciphering netlists of instances 1 to 5: docs/RULES.md, "What is emitted". Each bit has its NOTs, its
 // filter, and the XOR with its record bit. Room is the caller's to see to.
 use crate::levels::put_threshold;
 use crate::put::AND;

@@ -1,4 +1,4 @@
--- Evaluation of a netlist on bits in the clear. Document 01: a value for every wire, then the outputs.
+-- Evaluation of a netlist on bits in the clear. docs/RULES.md, "Netlists": a value for every wire, then the outputs.
 -- Lists: 1 the netlist, 2 the inputs, 3 the values, 4 the outputs.
 use Prim.Native.Nat.{ℕ, _+_}
 use mathlib.Core.Path.{_≡_}

@@ -1,4 +1,4 @@
-// Evaluation of a netlist on bits in the clear: document 01, "Netlists". A value for every wire, then the
+// Evaluation of a netlist on bits in the clear: docs/RULES.md, "Netlists". A value for every wire, then the
 // outputs. Judged 9, 3, 4, 8; the lists are the netlist, the inputs, the values and the outputs.
 use answer::Answer;
 use netlist::GATE_STRIDE;

@@ -1,4 +1,4 @@
--- Document 01's one-wire pass-through, read and written, and files that are refused; all by computation.
+-- The rules' one-wire pass-through, read and written, and files that are refused; all by computation.
 use Prim.Native.Nat.{ℕ}
 use mathlib.Core.Path.{_≡_, refl, _∙_}
 use mathlib.Core.List.{List, [], _∷_}

@@ -1,4 +1,4 @@
--- The netlist file. Document 01, "Netlist file": a two-byte mark before each record; words little-endian; "NH" I G O; for
+-- The netlist file. docs/RULES.md, "Netlist file": a two-byte mark before each record; words little-endian; "NH" I G O; for
 -- each gate "NG", a kind byte, a b c; for each output "NO", wire. Lists: 1 what is read or written, 2 the result.
 use Prim.Native.Nat.{ℕ, zero, suc, _+_, _*_}
 use mathlib.Core.Path.{_≡_}

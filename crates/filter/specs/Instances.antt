@@ -1,4 +1,4 @@
--- The filters of instances 1 to 5, by the degrees of their monomials. Document 01, "Six instances".
+-- The filters of instances 1 to 5, by the degrees of their monomials. docs/RULES.md, "Six instances".
 use Prim.Native.Nat.{ℕ, zero, suc, _+_, _%_}
 use mathlib.Core.List.{List, [], _∷_, _++_}
 use lib.ListN.{take, drop, replicate}

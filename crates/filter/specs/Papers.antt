@@ -53,7 +53,7 @@ vector1216 = 128 ∷ 64 ∷ 0 ∷ 80 ∷ 0 ∷ 0 ∷ 0 ∷ 80 ∷ []
 abbrev pub vector1280 : List ℕ
 vector1280 = 128 ∷ 64 ∷ 0 ∷ 0 ∷ 0 ∷ 0 ∷ 0 ∷ 0 ∷ 0 ∷ 0 ∷ 0 ∷ 0 ∷ 0 ∷ 0 ∷ 0 ∷ 64 ∷ []
 
--- The filters of instances 1 to 5 with document 01's numbers: FLIP-530, FLIP-1394, FiLIP-1216, FiLIP-1280, and FiLIP-144,
+-- The filters of instances 1 to 5 with the rules' numbers: FLIP-530, FLIP-1394, FiLIP-1216, FiLIP-1280, and FiLIP-144,
 -- the sum of the first 81 variables and whether at least 32 of the 63 others are 1
 unfoldable pub published : ℕ → (ℕ → ℕ) → ℕ
 published zero x = 0

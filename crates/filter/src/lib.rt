@@ -1,4 +1,4 @@
-// The filters of instances 1 to 5: document 01, "Monomials"; papers 000 (FLIP) and 001 (FiLIP). A filter
+// The filters of instances 1 to 5: docs/RULES.md, "Monomials"; papers 000 (FLIP) and 001 (FiLIP). A filter
 // takes the variables of a row, in order, each once. No branch and no index depends on a variable.
 ghost use mathlib.Core.Path.{_≡_};
 ghost use Prim.Native.Nat.{_*_, _%_, _≤_, min};

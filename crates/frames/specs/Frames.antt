@@ -1,4 +1,4 @@
--- Port frames and files of them: document 02, item 1, in its order and with its numbers.
+-- Port frames and files of them: docs/RULES.md, "Frames", in its order and with its numbers.
 use Prim.Native.Nat.{ℕ, zero, suc, _+_, _*_, _-_, _/_, _<_}
 use mathlib.Core.Path.{_≡_}
 use mathlib.Core.Bool.{Bool, true, false, not}

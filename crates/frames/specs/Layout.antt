@@ -1,4 +1,4 @@
--- A port record. Document 02, item 1: 64 bits, high bit first: port 16, admin up 1, link up 1, errors 22, load 24.
+-- A port record. docs/RULES.md, "Frames": 64 bits, high bit first: port 16, admin up 1, link up 1, errors 22, load 24.
 use Prim.Native.Nat.{ℕ, _^_, _<_}
 use mathlib.Core.Path.{_≡_}
 use mathlib.Core.List.{List, _++_}

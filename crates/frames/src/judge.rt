@@ -1,4 +1,4 @@
-// What the calls are lent, judged in the order of document 02: 3, 4, then the file frame by frame, 15 and 16 in each, then
+// What the calls are lent, judged in the rules' order: 3, 4, then the file frame by frame, 15 and 16 in each, then
 // 16 of a new frame, then 8.
 use crate::FRAME_SIZE;
 use crate::RECORD_BITS;

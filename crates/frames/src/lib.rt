@@ -1,4 +1,4 @@
-// Frames for port records: document 02, item 1. One file that a switch can append to: frames end to end, each the mark
+// Frames for port records: docs/RULES.md, "Frames". One file that a switch can append to: frames end to end, each the mark
 // "PT", 16 bytes of IV and 8 bytes of record enciphered with Kreyvium, the IVs rising strictly. A layer above the
 // ciphers, which leans on what they promise alone.
 mod bytes;

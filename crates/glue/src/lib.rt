@@ -1,4 +1,4 @@
-// Gluing two netlists: document 01, "Gluing". Inputs of the first; its gates; then the gates of the second,
+// Gluing two netlists: docs/RULES.md, "Gluing". Inputs of the first; its gates; then the gates of the second,
 // written from where the first's end; outputs of the second. Judged 9, 9, 8, 10, 11; the lists are the
 // first, the second and the result.
 use answer::Answer;

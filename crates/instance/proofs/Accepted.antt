@@ -1,4 +1,4 @@
--- The judges of numbers, lengths, rows and whitening accept a wiring exactly if it is what document 01 lets a caller lend.
+-- The judges of numbers, lengths, rows and whitening accept a wiring exactly if it is what the rules let a caller lend.
 use Prim.Native.Nat.{ℕ, zero, suc, _+_, _-_, _*_, _/_, _%_, _<_, _≤_}
 use mathlib.Core.Bool.{Bool, true, false, not}
 use mathlib.Core.Path.{_≡_, refl, sym, ap, _∙_}

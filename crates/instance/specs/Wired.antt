@@ -1,4 +1,4 @@
--- What document 01, "Rows", lets a caller lend: the wiring of a record of m bits, a key and a record.
+-- What docs/RULES.md, "Rows", lets a caller lend: the wiring of a record of m bits, a key and a record.
 use Prim.Native.Nat.{ℕ, _+_, _*_, _<_, _≤_}
 use mathlib.Core.Path.{_≡_}
 use mathlib.Core.List.{List}

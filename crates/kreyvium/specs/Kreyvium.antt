@@ -1,4 +1,4 @@
--- Kreyvium: document 01, "Kreyvium", in its order and with its numbers, after source document 003, section 3.3.
+-- Kreyvium: docs/RULES.md, "Kreyvium", in its order and with its numbers, after paper 003, section 3.3.
 -- A bit is 0 or 1, and sums of bits are modulo 2.
 use mathlib.Core.List.{List, [], _∷_, _++_}
 use Prim.Native.Nat.{ℕ, zero, suc, _+_, _*_, _-_, _%_}

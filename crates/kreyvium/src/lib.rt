@@ -1,4 +1,4 @@
-// Kreyvium's registers, its round and its keystream: document 01, "Kreyvium".
+// Kreyvium's registers, its round and its keystream: docs/RULES.md, "Kreyvium".
 //
 // The registers are packed words that go into each function by value and come back from it. Beside
 // the single round there are 64 rounds at once on whole words: every tap stands at the 66th place of

@@ -1,4 +1,4 @@
--- The level records. Document 01: record L counts the AND gates and the MUX gates whose depth is L, from 0 up to the
+-- The level records. docs/RULES.md, "Netlists": record L counts the AND gates and the MUX gates whose depth is L, from 0 up to the
 -- largest depth of any gate, or record 0 alone without gates.
 use Prim.Native.Nat.{ℕ, zero, suc, _+_}
 use mathlib.Core.Bool.{Bool, true, false, _&&_}
@@ -53,7 +53,7 @@ levels net = levelsBelow net (depths (netOf net)) (gatesOf net) (levelCount (net
 unfoldable pub overLevels : List Level → List Level → List Level
 overLevels front old = front ++ drop (length front) old
 
--- document 01: success writes the needed front and keeps the rest, a refusal changes nothing
+-- the rules: success writes the needed front and keeps the rest, a refusal changes nothing
 unfoldable pub leftLevels : Answer → List Level → List Level → List Level
 leftLevels Done front old = overLevels front old
 leftLevels (Refused number list place) front old = old

@@ -1,4 +1,4 @@
--- The meter. Document 01: it fills a depth list and a list of level records, and returns depth and multiplications.
+-- The meter. docs/RULES.md, "Netlists": it fills a depth list and a list of level records, and returns depth and multiplications.
 -- Lists: 1 the netlist, 2 the depths, 3 the levels.
 use Prim.Native.Nat.{ℕ, _+_}
 use mathlib.Core.Path.{_≡_}
@@ -27,7 +27,7 @@ unfoldable pub meterAnswer : List ℕ → ℕ → ℕ → Answer
 meterAnswer net d l = depthsAnswer net d ▹ levelsAnswer net l
 
 -- What a call that was lent net, ds and ls returns, and what it leaves in the last two. The depths are filled even where
--- only the level list is too short: document 01's one exception.
+-- only the level list is too short: the rules' one exception.
 pub record MeteredAs (net ds : List ℕ) (ls : List Level) (r : Metered) (ds′ : List ℕ) (ls′ : List Level) : Type 0 where
   pub answered : r .answer ≡ meterAnswer net (length ds) (length ls)
   pub deep : r .depth ≡ ifDone (r .answer) (depth (netOf net))

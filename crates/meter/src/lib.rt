@@ -1,4 +1,4 @@
-// The meter: document 01, "Netlists". The depth of every wire, the AND and the MUX gates counted by depth,
+// The meter: docs/RULES.md, "Netlists". The depth of every wire, the AND and the MUX gates counted by depth,
 // the netlist's depth and its multiplications. Judged 9, 8; the lists are the netlist, the depths and the
 // levels.
 use answer::Answer;

@@ -90,7 +90,7 @@ module _ (inst m : ℕ) (idx wh : List ℕ) (l : Lent inst m idx wh) where
   pub emitted-outputs : outputsOf (words (decipherNet inst m idx wh)) ≡ m
   emitted-outputs = outs-count inst m idx wh l
 
-  -- Multiplications and depth: document 01's table for instances 1 to 5; Kreyvium's, and its bound for output bit t.
+  -- Multiplications and depth: the rules' table for instances 1 to 5; Kreyvium's, and its bound for output bit t.
   pub emitted-mults : (inst ≡ 6 → ⊥) → mults (decipherNet inst m idx wh) ≡ m * costOf inst .mults
   emitted-mults n = ap mults (net-rows inst m idx wh n) ∙ rows-mults inst m idx wh (l .least) (five n) (rows n)
 

@@ -1,4 +1,4 @@
-// The printing program: document 01, "The printing program". It reads standard input, and writes to
+// The printing program: docs/RULES.md, "The printing program". It reads standard input, and writes to
 // standard output what crate text prints for it. No promise can say what is read or written: all that is
 // decided stands in `text::print_text`.
 //

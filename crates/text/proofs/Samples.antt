@@ -1,4 +1,4 @@
--- Document 01's example: what is printed for "2 3", byte by byte.
+-- The rules' example: what is printed for "2 3", byte by byte.
 use Prim.Native.Nat.{ℕ}
 use mathlib.Core.Path.{_≡_, ap}
 use mathlib.Core.List.{List, [], _∷_, _++_}

@@ -1,4 +1,4 @@
--- What a whole input asks. Document 01, "The printing program": one line "d n", decimals of 1 to 3 digits without
+-- What a whole input asks. docs/RULES.md, "The printing program": one line "d n", decimals of 1 to 3 digits without
 -- needless zeros, one space, newline. `asked-line` and `asked-only` say that `askedOf` is this and nothing else.
 use Prim.Native.Nat.{ℕ, _+_, _*_, _-_}
 use mathlib.Core.Bool.{Bool, false}

@@ -1,4 +1,4 @@
--- What the printing program prints. Document 01, "The printing program": a title with d and n; counts; a gate's wire,
+-- What the printing program prints. docs/RULES.md, "The printing program": a title with d and n; counts; a gate's wire,
 -- kind and used operands; each output wire. Bytes are in comments as they read.
 use Prim.Native.Nat.{ℕ, suc}
 use mathlib.Core.Path.{_≡_}
@@ -95,7 +95,7 @@ textOf (Line d n) = thresholdText d n
 unfoldable pub printed : List ℕ → List ℕ
 printed input = textOf (askedOf input)
 
--- What a call that was to give a text returns, and what it leaves in the result: document 01's 8 where there is no room.
+-- What a call that was to give a text returns, and what it leaves in the result: the rules' 8 where there is no room.
 -- Lists: 1 the input, 2 the result.
 pub record Kept (text old : List ℕ) (r : Printing) (new : List ℕ) : Type 0 where
   pub answered : r .answer ≡ roomAnswer 2 (length old) (length text)

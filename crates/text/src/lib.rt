@@ -1,4 +1,4 @@
-// The printing program's work on lists of bytes: document 01, "The printing program". What a whole input
+// The printing program's work on lists of bytes: docs/RULES.md, "The printing program". What a whole input
 // asks, and the text that is printed for it.
 mod gates;
 mod line;

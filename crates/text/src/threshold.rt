@@ -1,5 +1,5 @@
 // The text of a threshold netlist, which is emitted and not metered: its depth and its multiplications are
-// document 01's, "What is emitted".
+// those of docs/RULES.md, "What is emitted".
 use crate::net::put_net;
 use crate::net::put_title;
 use crate::put::put_bytes;

@@ -1,4 +1,4 @@
-// Document 01's case of choice from draws. 01 has N = 4 there. The call takes N from its instance, so it is
+// The rules' case of choice from draws. They have N = 4 there. The call takes N from its instance, so it is
 // FLIP-530's here: three draws that reach no further than place 3 do not tell the two apart.
 use crate::text::say;
 use crate::text::say_number;
@@ -17,7 +17,7 @@ pub(crate) fn print() {
     draws[0] = 2;
     draws[1] = 2;
     let mut row = [0u32; 530];
-    say(b"01, Edges, choice from draws 2,2,0, with FLIP-530's N and zeros after them: row ");
+    say(b"rules, Cases, choice from draws 2,2,0, with FLIP-530's N and zeros after them: row ");
     let r = choice::choose(1, &draws, &mut row);
     let Answer::Done = r else {
         say(b"refused\n");

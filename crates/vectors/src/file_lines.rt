@@ -1,4 +1,4 @@
-// Document 01's netlist file, a one-wire pass-through, written and read.
+// The rules' netlist file, a one-wire pass-through, written and read.
 use crate::text::say;
 use crate::text::say_bytes;
 use crate::text::say_words;
@@ -13,7 +13,7 @@ fn print_read(bytes: &[u8]) {
         say(b"refused\n");
         return;
     };
-    say(b"01, Netlist file, a one-wire pass-through, read:");
+    say(b"rules, Netlist file, a one-wire pass-through, read:");
     say_words(&words);
     say(b"\n");
 }
@@ -25,7 +25,7 @@ pub(crate) fn print() {
         say(b"refused\n");
         return;
     };
-    say(b"01, Netlist file, a one-wire pass-through, written:");
+    say(b"rules, Netlist file, a one-wire pass-through, written:");
     say_bytes(&bytes);
     say(b"\n");
     print_read(&bytes);

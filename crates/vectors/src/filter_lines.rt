@@ -1,5 +1,5 @@
 // The filters' worked cases: 000's example of a triangle, the edge of FiLIP-144's threshold, and document
-// 01's cases that are sums of monomials.
+// the rules' cases that are sums of monomials.
 use crate::text::say;
 use crate::text::say_bits;
 use crate::text::say_digit;
@@ -50,7 +50,7 @@ fn put_ones(x: &mut [u8], from: usize) {
 fn threshold_line(zeros: usize) {
     let mut x = [0u8; 144];
     put_ones(&mut x, zeros);
-    say(b"01, Monomials, FiLIP-144 on zeros and then ones from place ");
+    say(b"rules, Monomials, FiLIP-144 on zeros and then ones from place ");
     say_number(zeros);
     say(b" of 144: ");
     say_digit(filter::filter(5, &x));
@@ -62,6 +62,6 @@ pub(crate) fn print() {
     triangle();
     threshold_line(113);
     threshold_line(112);
-    line(b"01, Edges, monomials [1,1]", &[1, 2], &[1, 1, 1]);
-    line(b"01, Edges, triangle of degree 2", &[1, 2], &[0, 1, 1]);
+    line(b"rules, Cases, monomials [1,1]", &[1, 2], &[1, 1, 1]);
+    line(b"rules, Cases, triangle of degree 2", &[1, 2], &[0, 1, 1]);
 }

@@ -1,5 +1,5 @@
-// Document 02's frames. The first holds the public keystream, each byte turned to have its high bit first.
-// The two of one file, under another key, are worked out from 01 and 02 bit by bit.
+// Frames of docs/RULES.md, "Frames". The first holds the public keystream, each byte turned to have its high bit first.
+// The two of one file, under another key, are worked out from the rules bit by bit.
 use crate::text::say;
 use crate::text::say_bits;
 use crate::text::say_bytes;
@@ -35,7 +35,7 @@ fn print_public() {
         return;
     };
     end(
-        b"02, item 1, frame of key, IV and record all zero, keystream the public vector above:",
+        b"rules, Frames, frame of key, IV and record all zero, keystream the public vector above:",
         &frame,
     );
 }
@@ -73,7 +73,7 @@ fn print_bits(port: Port, record: &mut [u8]) {
         say(b"refused\n");
         return;
     };
-    say(b"02, item 1,");
+    say(b"rules, Frames,");
     say_port(port);
     say(b": ");
     say_bits(record, 64);
@@ -95,7 +95,7 @@ fn print_frame(record: &[u8], iv: &[u8], file: &[u8], frame: &mut [u8]) {
         say(b"refused\n");
         return;
     };
-    say(b"02, item 1, its frame, key");
+    say(b"rules, Frames, its frame, key");
     say_bytes(&KEY);
     say(b", IV");
     say_bytes(iv);
@@ -146,7 +146,7 @@ fn print_read(file: &[u8]) {
         say(b"refused\n");
         return;
     };
-    say(b"02, item 1, both frames read:");
+    say(b"rules, Frames, both frames read:");
     say_record(&records[0..64]);
     say(b";");
     say_record(&records[64..]);
@@ -172,7 +172,7 @@ fn say_answer(answer: Answer) {
 // A new frame whose IV is not above the last one's.
 fn print_refusal(file: &[u8]) {
     let mut frame = [0u8; 26];
-    say(b"02, item 1, a frame with IV all zero behind both: ");
+    say(b"rules, Frames, a frame with IV all zero behind both: ");
     say_answer(append_zeros(file, &mut frame));
     say(b"\n");
 }

@@ -2,7 +2,7 @@
 // compute them. Each line says where its vector is from. The file `stdout` was written from those
 // sources, and what is printed must equal it.
 //
-// Documents: 000 (FLIP), 003 (Kreyvium), 01 (the rules), 02 (the changes). A list of bits is printed with
+// Sources: 000 (FLIP), 003 (Kreyvium), the rules (docs/RULES.md). A list of bits is printed with
 // commas; a key, an IV and a keystream as bytes in hexadecimal, the low bit of each byte first in Kreyvium's
 // public vectors and the high bit in frames.
 mod choice_lines;

@@ -1,5 +1,5 @@
-// Document 01's cases of thresholds and one-hot netlists, by evaluating the netlists that are emitted; and
-// emitted netlists that 01 describes, gate by gate. Each list has just the words that its netlist takes.
+// The rules' cases of thresholds and one-hot netlists, by evaluating the netlists that are emitted; and
+// emitted netlists that the rules describe, gate by gate. Each list has just the words that its netlist takes.
 use crate::text::say;
 use crate::text::say_bits;
 use crate::text::say_number;
@@ -89,21 +89,21 @@ fn one_hot(n: u32, net: &mut [u32], inputs: &[u8]) {
         say(b"refused\n");
         return;
     };
-    line(b"01, Edges, one-hot", net, inputs);
+    line(b"rules, Cases, one-hot", net, inputs);
 }
 
 fn print_edges() {
     let mut two = [0u32; 24];
-    threshold(b"01, Edges, threshold 2 of 3", 2, 3, &mut two, &[0, 1, 1]);
-    threshold(b"01, Edges, threshold 2 of 3", 2, 3, &mut two, &[1, 0, 0]);
+    threshold(b"rules, Cases, threshold 2 of 3", 2, 3, &mut two, &[0, 1, 1]);
+    threshold(b"rules, Cases, threshold 2 of 3", 2, 3, &mut two, &[1, 0, 0]);
     let mut three = [0u32; 12];
-    threshold(b"01, Edges, threshold 3 of 3", 3, 3, &mut three, &[1, 1, 1]);
+    threshold(b"rules, Cases, threshold 3 of 3", 3, 3, &mut three, &[1, 1, 1]);
     let mut one = [0u32; 4];
-    threshold(b"01, Edges, threshold 1 of 1", 1, 1, &mut one, &[1]);
+    threshold(b"rules, Cases, threshold 1 of 1", 1, 1, &mut one, &[1]);
     let mut four = [0u32; 8];
-    threshold(b"01, Edges, threshold 4 of 3", 4, 3, &mut four, &[1, 1, 1]);
+    threshold(b"rules, Cases, threshold 4 of 3", 4, 3, &mut four, &[1, 1, 1]);
     line(
-        b"01, Edges, XOR of 2 with 2 of 3",
+        b"rules, Cases, XOR of 2 with 2 of 3",
         &XOR_AND_THRESHOLD,
         &[1, 0, 0, 1, 1],
     );
@@ -170,7 +170,7 @@ fn print_two_of_three() {
         say(b"refused\n");
         return;
     };
-    say(b"01, The printing program, threshold 2 of 3:");
+    say(b"rules, The printing program, threshold 2 of 3:");
     say_gates(&net, 0, 5);
     say(b" out ");
     say_number(answer::word_at(&net, 23) as usize);
@@ -185,7 +185,7 @@ fn print_kreyvium() {
         say(b"refused\n");
         return;
     };
-    say(b"01, What is emitted, Kreyvium of 1 bit, IV all zero: ");
+    say(b"rules, What is emitted, Kreyvium of 1 bit, IV all zero: ");
     say_number(answer::word_at(&net, 1) as usize);
     say(b" gates, from");
     say_gates(&net, 0, 16);

@@ -1,4 +1,4 @@
--- What is claimed of the deciphering netlists of instances 1 to 5, with document 01's chains: for every accepted row and
+-- What is claimed of the deciphering netlists of instances 1 to 5, with the rules' chains: for every accepted row and
 -- whitening, every key and every enciphered record.
 use Prim.Native.Nat.{ℕ, zero, suc, _+_, _*_, _≤_}
 use mathlib.Core.Path.{_≡_}
@@ -37,7 +37,7 @@ module _ (inst m : ℕ) (idx wh : List ℕ) (low : 1 ≤ inst) (high : inst ≤ 
   pub rows-right : (key rec : List ℕ) → Inputs inst m key rec → eval (rowsNet chain inst idx wh m) (key ++ rec) ≡ tab (decipherBit inst key rec idx wh) m
   rows-right = decipher-right chain chain-splits inst (costOf inst) (known-chain inst low high) m idx wh R
 
-  -- m times document 01's table
+  -- m times the rules' table
   pub rows-mults : mults (rowsNet chain inst idx wh m) ≡ m * costOf inst .mults
   rows-mults = decipher-mults chain chain-splits inst (costOf inst) (known-chain inst low high) m idx wh R
 

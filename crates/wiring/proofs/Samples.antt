@@ -1,4 +1,4 @@
--- Small cases, computed, to see the gates in document 01's order.
+-- Small cases, computed, to see the gates in the rules' order.
 use mathlib.Core.Path.{_≡_, refl}
 use mathlib.Core.List.{[], _∷_}
 use Rattle.netlist.specs.declared.gate.Gate.the-variants.{Not, Xor, And, Mux}

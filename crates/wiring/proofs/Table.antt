@@ -1,4 +1,4 @@
--- Document 01's table of filters, computed for its chains.
+-- The rules' table of filters, computed for its chains.
 use Prim.Native.Nat.{ℕ, zero, suc, _≤_}
 use mathlib.Core.Path.{_≡_, refl}
 use native.Mathlib.Omega.{arith}

@@ -1,4 +1,4 @@
--- What the deciphering netlists cost. Document 01's table, and how it is counted over expressions.
+-- What the deciphering netlists cost. The rules' table, and how it is counted over expressions.
 use Prim.Native.Nat.{ℕ, zero, suc, _+_, _-_, _*_, max}
 use lib.ListN.{length}
 use Rattle.cells.specs.Loop.{pos}
@@ -24,7 +24,7 @@ costOf (suc (suc (suc (suc zero)))) = cost 1024 15 1280
 costOf (suc (suc (suc (suc (suc zero))))) = cost 1053 62 1197
 costOf (suc (suc (suc (suc (suc (suc i)))))) = cost 0 0 0
 
--- multiplications; a threshold's as document 01 says
+-- multiplications; a threshold's as the rules say
 unfoldable pub muls : Exp → ℕ
 muls (wire w) = 0
 muls (sum a b) = muls a + muls b

@@ -1,4 +1,4 @@
--- The deciphering netlists of instances 1 to 5. Document 01, "What is emitted". S is how products are split.
+-- The deciphering netlists of instances 1 to 5. docs/RULES.md, "What is emitted". S is how products are split.
 use Prim.Native.Nat.{ℕ, zero, suc, _+_, _*_}
 use mathlib.Core.List.{List, [], _∷_, _++_}
 use lib.ListN.{length, take, drop}

@@ -1,5 +1,5 @@
 -- What a wire is to carry, as an expression over wires that are there already: its gates stand in the order in which
--- document 01 names them, first operand, second operand, the gate over both.
+-- the rules name them, first operand, second operand, the gate over both.
 use Prim.Native.Nat.{ℕ, zero, suc, _+_, _-_}
 use mathlib.Core.Bool.{Bool, true, false}
 use lib.Dec.{leb, ltb}
@@ -32,7 +32,7 @@ unfoldable pub factors : Split → ℕ
 factors one = 1
 factors (two a b) = factors a + factors b
 
--- document 01: from the left, the running product first
+-- the rules: from the left, the running product first
 unfoldable pub chain : ℕ → Split
 chain zero = one
 chain (suc zero) = one
