@@ -38,7 +38,13 @@ fn reversed(source: &[u8], k0: u64, k1: u64, v0: u64, v1: u64) {
 }
 
 pub(crate) fn print() {
-    plain(b"Kreyvium, public vector, loaded as the rules say", 0, 0, 0, 0);
+    plain(
+        b"Kreyvium, public vector, loaded as the rules say",
+        0,
+        0,
+        0,
+        0,
+    );
     let other = b"Kreyvium, public vector of a library that loads in reverse, loaded so";
     reversed(other, 0, 0, 1, 0);
     reversed(

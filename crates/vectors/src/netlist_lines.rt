@@ -94,14 +94,38 @@ fn one_hot(n: u32, net: &mut [u32], inputs: &[u8]) {
 
 fn print_edges() {
     let mut two = [0u32; 24];
-    threshold(b"rules, Cases, threshold 2 of 3", 2, 3, &mut two, &[0, 1, 1]);
-    threshold(b"rules, Cases, threshold 2 of 3", 2, 3, &mut two, &[1, 0, 0]);
+    threshold(
+        b"rules, Cases, threshold 2 of 3",
+        2,
+        3,
+        &mut two,
+        &[0, 1, 1],
+    );
+    threshold(
+        b"rules, Cases, threshold 2 of 3",
+        2,
+        3,
+        &mut two,
+        &[1, 0, 0],
+    );
     let mut three = [0u32; 12];
-    threshold(b"rules, Cases, threshold 3 of 3", 3, 3, &mut three, &[1, 1, 1]);
+    threshold(
+        b"rules, Cases, threshold 3 of 3",
+        3,
+        3,
+        &mut three,
+        &[1, 1, 1],
+    );
     let mut one = [0u32; 4];
     threshold(b"rules, Cases, threshold 1 of 1", 1, 1, &mut one, &[1]);
     let mut four = [0u32; 8];
-    threshold(b"rules, Cases, threshold 4 of 3", 4, 3, &mut four, &[1, 1, 1]);
+    threshold(
+        b"rules, Cases, threshold 4 of 3",
+        4,
+        3,
+        &mut four,
+        &[1, 1, 1],
+    );
     line(
         b"rules, Cases, XOR of 2 with 2 of 3",
         &XOR_AND_THRESHOLD,
