@@ -58,12 +58,13 @@ pub both-turned : (x y x′ y′ : ℕ) → bits 64 x′ ≡ reverse (bits 64 x)
     → bits 64 y′ ++ bits 64 x′ ≡ reverse (bits 64 x ++ bits 64 y)
 both-turned x y x′ y′ e f = ap₂ _++_ f e ∙ sym (reverse-append (bits 64 x) (bits 64 y))
 
--- The registers loaded from a key and an IV in reverse, with K* and IV* from those as they are.
-pub load-reversed : (s : Registers ℕ) (turnedKey turnedIv key iv : List ℕ) → turnedKey ≡ reverse key → turnedIv ≡ reverse iv → s ≡ loaded 0 1 turnedKey turnedIv
-    → _≡_ {A = Registers ℕ} (record { a = s .a; b = s .b; c = s .c; k = key; v = iv }) (loadedInReverse key iv)
+-- The registers of s, loaded from a key and an IV in reverse, with K* and IV* from those as they are.
+pub load-reversed : (s r : Registers ℕ) (turnedKey turnedIv key iv : List ℕ) → turnedKey ≡ reverse key → turnedIv ≡ reverse iv → s ≡ loaded 0 1 turnedKey turnedIv
+    → r ≡ record { a = s .a; b = s .b; c = s .c; k = key; v = iv } → r ≡ loadedInReverse key iv
 unfolding loaded loadedInReverse
-load-reversed s turnedKey turnedIv key iv e f g =
-    registers-eq
+load-reversed s r turnedKey turnedIv key iv e f g h =
+    h
+    ∙ registers-eq
     (ap (λ (r : Registers ℕ). r .a) g ∙ ap (take 93) e)
     (ap (λ (r : Registers ℕ). r .b) g ∙ ap (take 84) f)
     (ap (λ (r : Registers ℕ). r .c) g ∙ ap (λ (l : List ℕ). drop 84 l ++ (replicate 66 1 ++ (0 ∷ []))) f)

@@ -1,4 +1,3 @@
-use mathlib.Core.Path.{_∙_}
 use Rattle.vectors.proofs.Turning.{both-turned, load-reversed}
 use borrow.Author.Needs.{needs}
 use Rattle.vectors.proofs.reversed.load.Statement.{statement}
@@ -28,8 +27,8 @@ returns c =
     let v1 = v0 .before in
     let k0 = v1 .before in
     let k1 = k0 .before in
-    c .with-stars .ensures
-    ∙ load-reversed
+    load-reversed
+    _
     _
     _
     _
@@ -38,6 +37,7 @@ returns c =
     (both-turned _ _ _ _ (k0 .turned2 .ensures) (k1 .turned .ensures))
     (both-turned _ _ _ _ (v0 .turned4 .ensures) (v1 .turned3 .ensures))
     (c .before .load .ensures)
+    (c .with-stars .ensures)
 
 pub load-spec : {M : Type 1} → statement M
 load-spec =
