@@ -44,15 +44,15 @@ wiringAnswer inst m idx wh =
     ▹ bitsAnswer 2 wh
     ▹ (rowsAnswer 1 (keyBits inst) (rowBits inst) idx ▹ whiteAnswer 2 inst wh)
 
--- that answer, and how many gates and words the netlist has, none on a refusal
-unfoldable pub sizedBy : Answer → Net → Size
-sizedBy Done net = record { answer = Done; gates = length (net .gates); words = length (words net) }
-sizedBy (Refused number list place) net = record { answer = Refused number list place; gates = 0; words = 0 }
-
 -- and 8
 unfoldable pub decipherAnswer : ℕ → ℕ → List ℕ → List ℕ → ℕ → Answer
 decipherAnswer inst m idx wh room =
     wiringAnswer inst m idx wh ▹ roomAnswer 3 room (length (words (decipherNet inst m idx wh)))
+
+-- how many gates and words a netlist has, and 0 of both where the answer is a refusal
+unfoldable pub sizedBy : Answer → Net → Size
+sizedBy Done net = record { answer = Done; gates = length (net .gates); words = length (words net) }
+sizedBy (Refused number list place) net = record { answer = Refused number list place; gates = 0; words = 0 }
 
 -- a call that was due this answer, of this netlist: what it answered and what it left in the result
 pub record Emitted (due : Answer) (net : Net) (out : List ℕ) (r : Answer) (out′ : List ℕ) : Type 0 where
