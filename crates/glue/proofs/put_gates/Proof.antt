@@ -99,19 +99,19 @@ used-requires c κs = search needs
 wire-requires : tie.Need-wire-requires Inv-loop μ-loop
 wire-requires c κs =
     let s = c .before .before .before .before .before .before .before .before .before .before .before .before .before .before in
-    (omega (arith, bits c), s .pre .0 .inputs, small-gate (s .args .second .now) (s .args .outs .now) (s .args .base) _ _ (s .pre .0) (less (c .before .before .before .before)) .0)
+    omega (arith, bits c, s .pre .0 .inputs, small-gate (s .args .second .now) (s .args .outs .now) (s .args .base) _ _ (s .pre .0) (less (c .before .before .before .before)))
 
 wire-requires-2 : tie.Need-wire-requires-2 Inv-loop μ-loop
 wire-requires-2 c κs =
     let u = c .before in
     let s = u .before .before .before .before .before .before .before .before .before .before .before .before .before .before in
-    (omega (arith, bits u), s .pre .0 .inputs, small-gate (s .args .second .now) (s .args .outs .now) (s .args .base) _ _ (s .pre .0) (less (u .before .before .before .before)) .1)
+    omega (arith, bits u, s .pre .0 .inputs, small-gate (s .args .second .now) (s .args .outs .now) (s .args .base) _ _ (s .pre .0) (less (u .before .before .before .before)))
 
 wire-requires-3 : tie.Need-wire-requires-3 Inv-loop μ-loop
 wire-requires-3 c κs =
     let u = c .before .before in
     let s = u .before .before .before .before .before .before .before .before .before .before .before .before .before .before in
-    (omega (arith, bits u), s .pre .0 .inputs, small-gate (s .args .second .now) (s .args .outs .now) (s .args .base) _ _ (s .pre .0) (less (u .before .before .before .before)) .2)
+    omega (arith, bits u, s .pre .0 .inputs, small-gate (s .args .second .now) (s .args .outs .now) (s .args .base) _ _ (s .pre .0) (less (u .before .before .before .before)))
 
 mul-put-gate : tie.Need-mul-put-gate Inv-loop μ-loop
 mul-put-gate c = search needs
@@ -134,7 +134,7 @@ loop-again c =
     let h : l .g < gatesOf (a .second .now) = less (u .before .before .before .before) in
     let e : c .before .before .put-gate .last .0 ≡ over (gatesWords (map (ren (thru (a .outs .now) (a .base))) (gatesAt (a .second .now) 3 (l .g + 1)))) (a .out .now) =
     c .before .before .put-gate .ensures
-    ∙ words-more (a .second .now) (a .outs .now) (a .base) (a .out .now) _ (l .g) (s .pre .0) h (omega (arith, s .pre .0 .space, h)) (l .inv .0) (rw (bits u .0) at (c .before .before .before .before .before .before .wire .ensures)) (rw (bits u .1) at (c .before .before .before .before .before .wire2 .ensures)) (rw (bits u .2) at (c .before .before .before .before .wire3 .ensures)) in
+    ∙ words-more (a .second .now) (a .outs .now) (a .base) (a .out .now) _ (l .g) (s .pre .0) h (omega (arith, s .pre .0 .space, h)) (l .inv .0) (rw (← (bits u .0)) (c .before .before .before .before .before .before .wire .ensures)) (rw (← (bits u .1)) (c .before .before .before .before .before .wire2 .ensures)) (rw (← (bits u .2)) (c .before .before .before .before .wire3 .ensures)) in
     (e, search needs, ap length e ∙ length-over _ (a .out .now) (omega (arith, written-length (a .second .now) (a .outs .now) (a .base) (a .out .now) (l .g + 1))))
 
 same-length-2 : tie.Need-same-length-2 Inv-loop μ-loop
