@@ -1,9 +1,9 @@
 use Prim.Native.Nat.{_+_, _≤_, _-_}
-use lib.ListN.{getD, length}
+use lib.ListN.{getD, set, length}
 use Rattle.netlist.specs.declared.gate.Taken.the-variants.{Valid}
 use Rattle.netlist.specs.Words.{gatePlace, gateAt}
 use Rattle.netlist.proofs.Gates.{not-unknown, same-gate}
-use mathlib.Core.Path.{_≡_, _∙_}
+use mathlib.Core.Path.{_≡_, ap, _∙_}
 use native.Mathlib.Omega.{arith}
 use Rattle.evaluate.specs.Walks.{gatesPut}
 use Rattle.evaluate.proofs.Walks.{gates-none, gates-more, value-right}
@@ -126,8 +126,8 @@ loop-again c =
     let l = t .before .loop in
     let s = t .before .before .before .before in (
       search needs,
-      rw (c .value .ensures, same-gate (c .before .before .before .before .before .t .given .1) (known k), l .inv .1, value-right _ _ _ (s .args .gates) (l .g) (s .pre) (t .loop-test .taken))
-          (gates-more _ _ _ _ (omega arith) (s .pre .uses _ (t .loop-test .taken))),
+      rw (c .value .ensures, same-gate (c .before .before .before .before .before .t .given .1) (known k), l .inv .1)
+          (ap (set (gatesPut (s .args .net .now) (s .args .inputs) (l .g) (s .args .values .now)) (s .args .inputs + l .g)) (value-right _ _ _ (s .args .gates) (l .g) (s .pre) (t .loop-test .taken)) ∙ gates-more _ _ _ _ (omega arith) (s .pre .uses _ (t .loop-test .taken))),
       search needs,
     )
 
