@@ -2,8 +2,6 @@
 use mathlib.Core.Path.{_≡_, refl}
 use mathlib.Core.List.{[], _∷_}
 use Rattle.netlist.specs.declared.gate.Gate.the-variants.{Zero, One, Not, Xor, And, Mux}
-use Rattle.netlist.specs.Net.{Net}
-use Rattle.netlist.specs.Part.{Part}
 use Rattle.cells.specs.Cells.{cellGates, rowGates, sumGates, levelGates, levelAfter, firstGates, firstLevel, levelsGates, levelsEnd, allGates, lastLevel, oneHotNet, thresholdPart, thresholdNet}
 
 pub two-of-three : thresholdNet 2 3 ≡ record { inputs = 3; gates = Not 0 ∷ Mux 1 0 3 ∷ And 0 1 ∷ And 4 2 ∷ Xor 6 5 ∷ []; outs = 7 ∷ [] }

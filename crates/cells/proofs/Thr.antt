@@ -5,7 +5,7 @@ use Prim.Native.Nat.{ℕ, zero, suc, _+_, _-_, _*_, _≤_, _<_}
 use native.Mathlib.Omega.{arith}
 use lib.ListN.{length, length-map, replicate, length-replicate}
 use Rattle.netlist.specs.Net.{Alg, at, run, Below, valAlg, depAlg, mulsOf}
-use Rattle.netlist.specs.Part.{Part, Carries, Sits}
+use Rattle.netlist.specs.Part.{Carries, Sits}
 use Rattle.netlist.proofs.Bits.{Bits}
 use Rattle.netlist.proofs.Sim.{run-length}
 use Rattle.filter.specs.Filter.{ones, threshold}
@@ -14,7 +14,7 @@ use Rattle.cells.specs.Loop.{pos, down, cells}
 use Rattle.cells.proofs.Same.{threshold-part-loop}
 use Rattle.cells.proofs.Wiring.{endSum, firstRow, lastFrom, lastFrom-append, lowNot, trace, trace-last′, cells-run}
 use Rattle.cells.proofs.Bits.{ge, weight-ones, ge-test, sum-ge-weight}
-use Rattle.cells.proofs.Costs.{sum-depth, cells-mults, cells-length}
+use Rattle.cells.proofs.Costs.{sum-depth, cells-mults}
 use Rattle.cells.proofs.Placed.{cells-wired, length-cells}
 
 module _ {X : Type 0} (A : Alg X) where
@@ -76,9 +76,6 @@ module _ (d x y : ℕ) (ys : List ℕ) (h1 : 1 ≤ d) (h2 : d ≤ suc (suc (leng
       go : (d : ℕ) → 1 ≤ d → d ≤ suc (suc (length ys)) → mulsOf (cells (x ∷ y ∷ ys) (suc (suc (length ys)) - d) d next) + 2 + pos (suc (suc (length ys)) - d) ≡ (d + 1) * (suc (suc (length ys)) - d + 1)
       go zero a b = absurd (omega arith)
       go (suc t) a b = cells-mults x y ys (suc (suc (length ys)) - suc t) t next (omega arith)
-
-  pub thr-gates-most : (next : ℕ) → length (thresholdPart next d (x ∷ y ∷ ys) .gates) ≤ suc (suc (length ys)) * (suc (length ys) + 4)
-  thr-gates-most next = rw (loop next) (cells-length x (y ∷ ys) (suc (suc (length ys)) - d) d next)
 
 -- over bits: 1 exactly if at least d of them are 1
 pub thr-bits : (d x : ℕ) (xs : List ℕ) → Bits (x ∷ xs) → 1 ≤ d → d ≤ suc (length xs) → thrOf valAlg d (x ∷ xs) ≡ threshold d (x ∷ xs)

@@ -2,7 +2,7 @@
 -- and 14. There is a level for each input x1 .. xn; cell(i, j) of level i carries 1 exactly if j of x1 .. xi are 1.
 use Prim.Native.Nat.{ℕ, zero, suc, _+_, _-_, min}
 use mathlib.Core.List.{List, [], _∷_, _++_}
-use lib.ListN.{length, getD}
+use lib.ListN.{length}
 use lib.Dec.{ltb, eqb}
 use Rattle.answer.specs.Choose.{choose}
 use Rattle.netlist.specs.declared.gate.Gate.{Gate}

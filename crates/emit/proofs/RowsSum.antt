@@ -6,7 +6,7 @@ use mathlib.Core.List.{List, [], _∷_, _++_}
 use native.Mathlib.Omega.{arith}
 use native.Mathlib.Numerals.{add-one}
 use native.Mathlib.Nat.{add-sub-cancel-left}
-use lib.ListN.{length, getD, take, drop, length-append, length-take, length-drop}
+use lib.ListN.{length, getD, take, drop, length-take, length-drop}
 use lib.Seq.{sets, take-all, take-suc, drop-cons, drop-drop}
 use Rattle.netlist.specs.declared.gate.Gate.the-variants.{And, Xor}
 use Rattle.netlist.specs.Part.{Part, past, input, join}
@@ -30,10 +30,6 @@ product-length next (two a b) ws =
 
 pub chain-length : (next : ℕ) (ws : List ℕ) → 1 ≤ length ws → length (emit next (product (chain (length ws)) ws) .gates) + 1 ≡ length ws
 chain-length next ws h = product-length next (chain (length ws)) ws ∙ chain-splits (length ws) h
-
-pub term-length : (next acc : ℕ) (ws : List ℕ) → 1 ≤ length ws → length (term next acc ws .gates) ≡ length ws
-unfolding term
-term-length next acc ws h = length-append (emit next (product (chain (length ws)) ws) .gates) (Xor acc (emit next (product (chain (length ws)) ws) .out) ∷ []) ∙ omega (arith, chain-length next ws h)
 
 -- the chain stored, then the XOR
 pub term-wrote : (out o1 o2 : List ℕ) (at i next acc w r k : ℕ) (ws : List ℕ) → 1 ≤ length ws → k ≡ length ws → i ≡ at + 4 * (k - 1) → r ≡ next + (k - 1)

@@ -1,12 +1,12 @@
 -- Laws of tables of values, as the loops fill them.
-use Prim.Native.Nat.{ℕ, zero, suc, _+_, _<_, _≤_}
+use Prim.Native.Nat.{ℕ, zero, suc, _+_, _<_}
 use mathlib.Core.Path.{_≡_, refl, ap, ap₂, sym, _∙_}
 use mathlib.Core.List.{List, [], _∷_, _++_, append-assoc, append-nil}
 use native.Mathlib.Omega.{arith}
 use native.Mathlib.Numerals.{add-one}
 use mathlib.Core.Logic.{⊎-elim}
 use native.Mathlib.Nat.{eq-or-lt-of-le}
-use lib.ListN.{length, getD, set, drop, length-append, drop-of-length-le, List·getD-append}
+use lib.ListN.{length, getD, set, length-append, drop-of-length-le, List·getD-append}
 use lib.Seq.{getD-at}
 use Rattle.answer.specs.Fronts.{over}
 use Rattle.answer.proofs.Over.{over-next}

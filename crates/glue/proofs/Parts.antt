@@ -6,7 +6,7 @@ use native.Mathlib.Omega.{arith}
 use borrow.Rule.Slice.PartMut.{putMid, post-is}
 use lib.Dec.{ltb}
 use lib.ListN.{length, getD, take, drop, length-map, length-drop, length-take}
-use lib.Seq.{sets, drop-length, take-all, getD-drop, take-at}
+use lib.Seq.{sets, drop-length, getD-drop, take-at}
 use Rattle.answer.specs.Choose.{choose}
 use Rattle.answer.specs.Fronts.{over}
 use Rattle.answer.proofs.Over.{length-over, over-sets, over-tail, tail-is}

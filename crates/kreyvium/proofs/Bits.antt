@@ -40,13 +40,6 @@ bits-join (suc n) m x y h =
     rw (suc-add n m, block-odd y n x, block-half y n x)
     (ap (λ (l : List ℕ). x % 2 ∷ l) (bits-join n m (x / 2) y (half-lt-pow n h)))
 
--- from the first bit up: b enters above the n others
-pub bits-snoc : (n x b : ℕ) → x < 2 ^ n → b ≤ 1 → bits (suc n) (b * 2 ^ n + x) ≡ bits n x ++ (b ∷ [])
-unfolding bits
-bits-snoc n x b h k =
-    let e : b % 2 ≡ b = omega arith in
-    ap (λ (m : ℕ). bits m (b * 2 ^ n + x)) (sym (add-one n)) ∙ bits-join n 1 x b h ∙ ap (λ (c : ℕ). bits n x ++ (c ∷ [])) e
-
 -- the bits from n on do not count
 pub bits-low : (n k x : ℕ) → n ≤ k → bits n (x % 2 ^ k) ≡ bits n x
 unfolding bits

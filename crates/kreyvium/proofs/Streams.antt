@@ -115,12 +115,3 @@ module _ (key iv : List ℕ) where
   pub streamOf-length : (m : ℕ) → length (streamOf key iv m) ≡ m
   unfolding streamOf
   streamOf-length m = stream-length m _
-
-  -- whatever key and IV are
-  pub streamOf-small : (m i : ℕ) → getD (streamOf key iv m) i 0 ≤ 1
-  unfolding streamOf
-  streamOf-small m i = stream-small m _ i
-
-  pub streamOf-take : (n m : ℕ) → n ≤ m → take n (streamOf key iv m) ≡ streamOf key iv n
-  unfolding streamOf
-  streamOf-take n m h = stream-take n m _ h

@@ -12,6 +12,7 @@ use Rattle.netlist.specs.Sound.{Sound}
 use Rattle.netlist.proofs.Accepted.{done-sound}
 use Rattle.instance.specs.Table.{keyBits}
 use Rattle.instance.proofs.Judged.{room-done}
+use Rattle.instance.proofs.Accepted.{done-room}
 use Rattle.cipher.specs.Judging.{encipherAnswer}
 use Rattle.cipher.specs.Judging as judging
 use Rattle.cipher.proofs.Accepted.{encipher-lent}
@@ -24,7 +25,7 @@ use Rattle.emit.proofs.Accepted.{wiring-lent}
 use Rattle.path.specs.declared.Rooms.{Rooms}
 use Rattle.path.specs.Path.{decipherWords, roomsAnswer, scoreAnswer}
 use Rattle.path.specs.Steps.{resultsAnswer}
-use Rattle.path.proofs.Judging.{room-is, encipher-parts, wiring-accepted}
+use Rattle.path.proofs.Judging.{encipher-parts, wiring-accepted}
 use Rattle.path.proofs.Emission.{emitted-sound, emitted-outputs}
 
 -- The results have room: a is the deciphering netlist, b the scoring netlist.
@@ -78,12 +79,12 @@ roomy inst m key rec idx wh n e h =
     let w = then-done _ _ e2 in
     both (first-done _ _ e)
     (both (first-done _ _ e1)
-    (both (first-done _ _ e2) (both (one-of _ _ _ w) (both (two-of _ _ _ w) (room-is 5 n m h)))))
+    (both (first-done _ _ e2) (both (one-of _ _ _ w) (both (two-of _ _ _ w) (done-room 5 n m h)))))
 
 -- so does emission
 emits : (inst m : ℕ) (idx wh : List ℕ) (n : ℕ) → wiringAnswer inst m idx wh ≡ Done → length (decipherWords inst m idx wh) ≤ n → decipherAnswer inst m idx wh n ≡ Done
 unfolding decipherAnswer
-emits inst m idx wh n e h = both e (room-is 3 n _ h)
+emits inst m idx wh n e h = both e (done-room 3 n _ h)
 
 module _ (inst m : ℕ) (key rec idx wh score : List ℕ) (lent : Rooms) (done : scoreAnswer inst m key rec idx wh score lent ≡ Done) where
   enciphers : encipherAnswer inst m key rec idx wh m ≡ Done

@@ -1,21 +1,22 @@
 -- What score answers, from what its judges do: 1 to 7 are those of enciphering, in the parts that the code has.
-use Prim.Native.Nat.{ℕ, _+_, _*_, _≤_}
+use Prim.Native.Nat.{ℕ, _+_, _*_}
 use mathlib.Core.Path.{_≡_, refl, sym, ap, ap₂, _∙_}
 use mathlib.Core.Bool.{not}
 use mathlib.Core.List.{List}
 use native.Mathlib.Omega.{arith}
 use lib.ListN.{length}
 use lib.Dec.{ltb, eqb}
-use borrow.Author.Tests.{le-ltb}
 use Rattle.answer.specs.declared.Answer.{Answer}
 use Rattle.answer.specs.declared.Answer.the-variants.{Done, Refused}
 use Rattle.answer.specs.Answers.{_▹_, refuse}
 use Rattle.answer.specs.Bits.{bitsAnswer}
-use Rattle.answer.proofs.Rows.{first-done, then-done, both, pass, stop, refuse-done, refuse-not}
+use Rattle.answer.proofs.Rows.{first-done, then-done, both, pass, stop}
 use Rattle.netlist.specs.Words.{inputsOf, gatesOf, outputsOf}
 use Rattle.netlist.specs.Check.{gateLimit, netAnswer}
 use Rattle.instance.specs.Table.{keyBits, rowBits}
 use Rattle.instance.specs.Judging.{lengthAnswer, rowsAnswer, whiteAnswer, roomAnswer}
+use Rattle.instance.proofs.Judged.{length-done}
+use Rattle.instance.proofs.Accepted.{done-length, done-room}
 use Rattle.cipher.specs.Judging.{wiringLengths, encipherAnswer}
 use Rattle.cipher.specs.Judging as judging
 use Rattle.emit.specs.Emit.{wiringAnswer}
@@ -35,15 +36,9 @@ unfolding _▹_
 row-end Done e = e
 row-end (Refused n l p) e = refl
 
--- enough room
-pub room-is : (l n m : ℕ) → m ≤ n → roomAnswer l n m ≡ Done
-unfolding roomAnswer
-room-is l n m h = refuse-not 8 l n (le-ltb n m h)
-
 -- a length that is not refused as one list of a call is not refused as another
 length-done-as : (l k a b : ℕ) → lengthAnswer l a b ≡ Done → lengthAnswer k a b ≡ Done
-unfolding lengthAnswer
-length-done-as l k a b e = refuse-not _ _ _ (refuse-done _ _ _ _ e)
+length-done-as l k a b e = done-length k a b (length-done l a b e)
 
 module _ (inst m : ℕ) (key rec idx wh : List ℕ) where
   abbrev pub sizes : Answer
@@ -62,7 +57,7 @@ module _ (inst m : ℕ) (key rec idx wh : List ℕ) where
       let R = rowsAnswer 3 (keyBits inst) (rowBits inst) idx in
       let W = whiteAnswer 4 inst wh in
       let T = R ▹ W ▹ roomAnswer 5 m m in
-      let e : T ≡ R ▹ W = ap (λ (a : Answer). R ▹ a) (row-end W (room-is 5 m m (omega arith))) in
+      let e : T ≡ R ▹ W = ap (λ (a : Answer). R ▹ a) (row-end W (done-room 5 m m (omega arith))) in
       let f : (bitsAnswer 1 key ▹ bitsAnswer 2 rec ▹ bitsAnswer 4 wh) ▹ T ≡ bits ▹ wiring =
       row-row (bitsAnswer 1 key) _ T
       ∙ ap (λ (a : Answer). bitsAnswer 1 key ▹ a) (row-row (bitsAnswer 2 rec) (bitsAnswer 4 wh) T)

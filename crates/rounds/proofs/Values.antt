@@ -1,16 +1,14 @@
 -- On bits the circuit is the cipher's rounds, so the netlist deciphers.
 use mathlib.Core.Path.{_≡_, refl, ap, ap₂, sym, _∙_}
 use mathlib.Core.List.{List, [], _∷_, _++_, map}
-use Prim.Native.Nat.{ℕ, zero, suc, _+_, _*_, _%_, _≤_, _<_}
+use Prim.Native.Nat.{ℕ, zero, suc, _+_, _*_, _%_, _≤_}
 use native.Mathlib.Omega.{arith}
 use native.Mathlib.Nat.{mod-add-mod, add-mod-mod}
-use lib.ListN.{length, getD}
+use lib.ListN.{length}
 use Rattle.answer.specs.Bits.{added}
-use Rattle.answer.proofs.Added.{added-at}
 use Rattle.netlist.specs.Net.{valAlg, eval}
 use Rattle.netlist.proofs.Bits.{Bits}
 use Rattle.kreyvium.specs.Kreyvium.{Registers, sA, sB, sC, k0, t1, t2, t3, roundOf, outOf, loaded, rounds, stream, streamOf}
-use Rattle.kreyvium.proofs.Streams.{streamOf-length}
 use Rattle.rounds.specs.Circuit.{bitOf, sum1, sum2, sum3, gain1, gain2, gain3, outA, roundA, roundsA, addedA, cipheredA}
 use Rattle.rounds.specs.Gates.{kreyviumNet}
 use Rattle.rounds.proofs.Lists.{moved-eq}
@@ -128,10 +126,3 @@ right key iv rec hk hv bk bv br =
 pub kreyvium-right : (key iv rec : List ℕ) (m : ℕ) → length key ≡ 128 → length iv ≡ 128 → length rec ≡ m → Bits key → Bits iv → Bits rec
     → eval (kreyviumNet iv m) (key ++ rec) ≡ added rec (streamOf key iv m)
 kreyvium-right key iv rec m hk hv hr bk bv br = rw (sym hr) (right key iv rec hk hv bk bv br)
-
--- and so bit i
-pub kreyvium-bit : (key iv rec : List ℕ) (m : ℕ) → length key ≡ 128 → length iv ≡ 128 → length rec ≡ m → Bits key → Bits iv → Bits rec → (i : ℕ) → i < m
-    → getD (eval (kreyviumNet iv m) (key ++ rec)) i 0 ≡ (getD rec i 0 + getD (streamOf key iv m) i 0) % 2
-kreyvium-bit key iv rec m hk hv hr bk bv br i h =
-    ap (λ (l : List ℕ). getD l i 0) (kreyvium-right key iv rec m hk hv hr bk bv br)
-    ∙ added-at rec (streamOf key iv m) i (omega arith) (omega (arith, streamOf-length key iv m))

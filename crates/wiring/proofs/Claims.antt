@@ -10,7 +10,6 @@ use Rattle.netlist.specs.Net.{eval, depth, mults, Valid}
 use Rattle.netlist.specs.Words.{words}
 use Rattle.netlist.specs.Sound.{Limits, Sound}
 use Rattle.netlist.proofs.Words.{valid-sound}
-use Rattle.instance.specs.Table.{sizesOf, keyBits}
 use Rattle.instance.proofs.Judged.{key-small, row-small}
 use Rattle.filter.specs.Filter.{tab, ones}
 use Rattle.filter.proofs.Sums.{ones-le}

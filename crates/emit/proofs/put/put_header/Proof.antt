@@ -1,6 +1,5 @@
 use native.Mathlib.Omega.{arith}
-use denote.Ref.{now}
-use lib.ListN.{length, length-set}
+use lib.ListN.{length-set}
 use borrow.Author.Needs.{needs}
 use Rattle.emit.proofs.put.put_header.Statement.{statement}
 use Rattle.emit.proofs.put.put_header.Tie as tie
