@@ -16,6 +16,7 @@ use independent::file_cases;
 use independent::frame_cases::{self, Appending};
 use independent::frames::{self, FRAME, RECORD};
 use independent::netlist::{self, Answer, Level, Metering, HEADER};
+use independent::path::{self, Read, Rooms};
 use independent::random::{bits, Random};
 use independent::{choice, file, kreyvium, probe};
 use std::hint::black_box;
@@ -558,7 +559,6 @@ fn emit(random: &mut Random, instance: u32, table: &mut Table) {
 }
 
 /// The lists of one program on a record's path.
-#[derive(Clone)]
 struct Path {
     enciphered: Vec<u8>,
     deciphering: Vec<u32>,
@@ -583,38 +583,19 @@ impl Path {
         }
     }
 
-    /// Enciphers and emits, each by the given call; then glues the scoring
-    /// netlist behind what was emitted and evaluates it on the key and the
-    /// enciphered record. The answer is the first that is a refusal.
-    fn walk(
-        &mut self,
-        program: &Program,
-        key: &[u8],
-        scoring: &[u32],
-        encipher: impl FnOnce(&mut [u8]) -> Answer,
-        emit: impl FnOnce(&mut [u32]) -> Answer,
-    ) -> Answer {
-        let answers = [
-            encipher(&mut self.enciphered),
-            emit(&mut self.deciphering),
-            (program.glue)(&self.deciphering, black_box(scoring), &mut self.glued),
-            {
-                let (of_key, of_record) = self.inputs.split_at_mut(key.len());
-                of_key.copy_from_slice(key);
-                of_record.copy_from_slice(&self.enciphered);
-                (program.evaluate)(
-                    &self.glued,
-                    &self.inputs,
-                    &mut self.values,
-                    black_box(&mut self.score),
-                )
-            },
-        ];
-        let refused = answers.into_iter().find(|&answer| answer != Answer::DONE);
-        refused.unwrap_or(Answer::DONE)
+    fn rooms(&mut self) -> Rooms<'_> {
+        Rooms {
+            enciphered: &mut self.enciphered,
+            deciphering: &mut self.deciphering,
+            glued: &mut self.glued,
+            inputs: &mut self.inputs,
+            wires: &mut self.values,
+            scores: &mut self.score,
+        }
     }
 }
 
+/// The whole path as one call.
 fn score(random: &mut Random, instance: u32, table: &mut Table) {
     let emission = timed_emission(random, instance);
     let scoring = cases::sound(
@@ -628,37 +609,26 @@ fn score(random: &mut Random, instance: u32, table: &mut Table) {
         },
     );
     let call = &emission.call;
-    let mut paths = [(); 3].map(|()| Path::new(&emission, &scoring));
-    let [library, rust, nested] = &mut paths;
-    let walk_library = &mut || {
-        library.walk(
-            &LIBRARY,
-            &call.key,
-            &scoring,
-            |result| by_library(call, result),
-            |result| emit_by_library(&emission, result),
-        )
+    let read = Read {
+        key: &call.key,
+        record: call.record.as_deref().unwrap_or(&[]),
+        indices: &call.indices,
+        whitening: &call.whitening,
+        scoring: &scoring,
     };
-    let walk_rust = |path: &mut Path, search| {
-        path.walk(
-            &RUST,
-            &call.key,
-            &scoring,
-            |result| by_rust(call, result, search),
-            |result| emit_by_rust(&emission, result, search),
-        )
+    let mut paths = [(); 2].map(|()| Path::new(&emission, &scoring));
+    let [library, rust] = &mut paths;
+    let by_library = &mut || {
+        let rooms = library.rooms();
+        probe::score(instance, call.m, black_box(&read), black_box(rooms))
     };
-    let by_marks = &mut || walk_rust(rust, cipher::by_marks);
-    let by_nested_loops = &mut || walk_rust(nested, cipher::by_nested_loops);
-    let ways: &mut [(_, &mut dyn FnMut() -> Answer)] = match instance {
-        6 => &mut [("no rows", by_marks)],
-        _ => &mut [
-            ("repeats by marks", by_marks),
-            ("repeats by nested loops", by_nested_loops),
-        ],
+    let by_rust = &mut || {
+        let rooms = rust.rooms();
+        path::score(instance, call.m, black_box(&read), black_box(rooms))
     };
-    table.compare("score", instance, Answer::DONE, walk_library, ways);
-    let [library, rust, _] = paths;
+    let ways: &mut [(_, &mut dyn FnMut() -> Answer)] = &mut [("one call", by_rust)];
+    table.compare("score", instance, Answer::DONE, by_library, ways);
+    let [library, rust] = paths;
     table.failed += usize::from(library.score != rust.score);
 }
 
@@ -672,9 +642,9 @@ fn emissions(random: &mut Random) {
     }
 
     println!(
-        "nanoseconds to emit a deciphering netlist, and from a record to its score: encipher, \
-         emit, glue a netlist of {SCORING_GATES} gates, evaluate; records of {BITS} bits, \
-         median of {CALL_SAMPLES} samples"
+        "nanoseconds to emit a deciphering netlist, and from a record to its score by the whole \
+         path, with a scoring netlist of {SCORING_GATES} gates; records of {BITS} bits, median \
+         of {CALL_SAMPLES} samples"
     );
     table.print();
 }
