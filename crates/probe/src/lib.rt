@@ -309,11 +309,11 @@ fn printout_of(printing: Printing) -> Printout
     ensures { λ r. ⌜ r ≡ printoutOf printing ⌝ }
 {
     let answer = printing.answer;
-    let r = told(answer);
+    let reply = told(answer);
     Printout {
-        number: r.number,
-        list: r.list,
-        place: r.place,
+        number: reply.number,
+        list: reply.list,
+        place: reply.place,
         size: printing.size,
     }
 }
