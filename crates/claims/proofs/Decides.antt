@@ -34,9 +34,9 @@ use Rattle.path.specs.Path.{Scored}
 use Rattle.cells.specs.Cells.{oneHotNet, thresholdNet}
 use Rattle.file.specs.declared.form.Form.{Form}
 use Rattle.file.specs.File.{checkAnswer, ReadAs, WrittenAs}
-use Rattle.text.specs.declared.Asked.{Asked}
+use Rattle.line.specs.declared.Asked.{Asked}
+use Rattle.line.specs.Asked.{askedOf}
 use Rattle.text.specs.declared.Printing.{Printing}
-use Rattle.text.specs.Asked.{askedOf}
 use Rattle.text.specs.Text.{printed, Printed}
 use Rattle.emit.specs.declared.Size.{Size}
 use Rattle.emit.specs.Emit.{oneHotAnswer, thresholdAnswer, wiringAnswer, decipherAnswer, decipherNet, sizedBy, Emitted}

@@ -1,5 +1,5 @@
 -- The printed text by its cases, as the code comes to them.
-use Prim.Native.Nat.{ℕ, _+_, _*_, _≤_}
+use Prim.Native.Nat.{ℕ, _+_, _*_, _≤_, _<_}
 use mathlib.Core.Bool.{Bool, true, false}
 use mathlib.Core.Path.{_≡_, refl, sym, ap, subst, _∙_}
 use mathlib.Core.List.{List, _++_}
@@ -20,10 +20,11 @@ use Rattle.cells.specs.Cells.{thresholdNet}
 use Rattle.cells.proofs.Facts.{threshold-outputs}
 use Rattle.emit.specs.Emit.{noThreshold, thresholdAnswer, Emitted}
 use Rattle.emit.proofs.Puts.{words-length}
-use Rattle.text.specs.declared.Asked.{Asked}
-use Rattle.text.specs.declared.Asked.the-variants.{Line, Nothing}
+use Rattle.line.specs.declared.Asked.{Asked}
+use Rattle.line.specs.declared.Asked.the-variants.{Line, Nothing}
+use Rattle.line.specs.Asked.{askedOf}
+use Rattle.line.proofs.Lines.{long-nothing}
 use Rattle.text.specs.declared.Printing.{Printing}
-use Rattle.text.specs.Asked.{askedOf}
 use Rattle.text.specs.Text.{titleLine, netText, wordsText, refusal, thresholdText, textOf, printed, Kept, Printed}
 use Rattle.text.specs.Puts.{Room, Wrote}
 use Rattle.text.proofs.Fits.{netlist-fits, threshold-few, printed-fits}
@@ -39,6 +40,10 @@ printed-nothing input a e h = rw (← e, h)
 pub printed-line : (input : List ℕ) (a : Asked) (d n : ℕ) → a ≡ askedOf input → a ≡ Line d n → thresholdText d n ≡ printed input
 unfolding printed textOf
 printed-line input a d n e h = rw (← e, h)
+
+-- an input longer than any line: what follows its first bytes cannot matter
+pub long-refused : (s : List ℕ) → 8 < length s → printed s ≡ refusal
+long-refused s h = sym (printed-nothing s Nothing (sym (long-nothing s h)) refl)
 
 -- a netlist, or none
 pub netlist-text : (d n : ℕ) → noThreshold d n ≡ false → titleLine d n ++ netText (thresholdNet d n) ≡ thresholdText d n

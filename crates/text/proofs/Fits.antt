@@ -1,5 +1,5 @@
 -- How long the printed text is at most. Every wire and every count has at most four digits.
-use Prim.Native.Nat.{ℕ, suc, _+_, _-_, _*_, _≤_, _<_}
+use Prim.Native.Nat.{ℕ, suc, _+_, _*_, _≤_, _<_}
 use mathlib.Core.Bool.{Bool, true, false}
 use mathlib.Core.Path.{_≡_, refl}
 use mathlib.Core.List.{List, [], _∷_, _++_}
@@ -14,12 +14,12 @@ use Rattle.cells.specs.Cells.{thresholdNet}
 use Rattle.cells.proofs.Facts.{threshold-inputs, threshold-outputs, threshold-valid, threshold-gates-64}
 use Rattle.emit.specs.Emit.{noThreshold}
 use Rattle.emit.proofs.Shapes.{shape-good}
-use Rattle.text.specs.declared.Asked.{Asked}
-use Rattle.text.specs.declared.Asked.the-variants.{Line, Nothing}
-use Rattle.text.specs.Decimal.{decimal}
-use Rattle.text.specs.Asked.{askedOf}
+use Rattle.line.specs.declared.Asked.{Asked}
+use Rattle.line.specs.declared.Asked.the-variants.{Line, Nothing}
+use Rattle.line.specs.Decimal.{decimal}
+use Rattle.line.specs.Asked.{askedOf}
+use Rattle.line.proofs.Decimals.{decimal-4}
 use Rattle.text.specs.Text.{named, newline, space, titleLine, sizes, costs, gateText, gateLine, gateLines, outLine, outLines, netText, refusal, thresholdText, textOf, printed}
-use Rattle.text.proofs.Decimals.{decimal-4}
 use Rattle.text.proofs.Thresholds.{depth-none, depth-some}
 
 named-most : (name : List ℕ) (n : ℕ) → n < 10000 → length (named name n) ≤ length name + 4

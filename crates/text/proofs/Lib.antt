@@ -1,9 +1,6 @@
-pub mod Decimals
 pub mod Parts
-pub mod Reading
 pub mod Netlists
 pub mod Thresholds
 pub mod Fits
 pub mod Cases
-pub mod Lines
 pub mod Samples

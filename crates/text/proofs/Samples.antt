@@ -5,8 +5,8 @@ use mathlib.Core.List.{List, [], _∷_, _++_}
 use Rattle.netlist.specs.Net.{Net}
 use Rattle.cells.proofs.Samples.{two-of-three}
 use Rattle.emit.specs.Emit.{noThreshold}
-use Rattle.text.specs.Decimal.{digits, decimal}
-use Rattle.text.specs.Asked.{isDigit, numberAt, endedBy, followed, askedOf}
+use Rattle.line.specs.Decimal.{digits, decimal}
+use Rattle.line.specs.Asked.{isDigit, numberAt, endedBy, followed, askedOf}
 use Rattle.text.specs.Text.{named, titleLine, sizes, costs, gateText, gateLine, gateLines, outLine, outLines, netText, thresholdText, textOf, printed}
 
 -- 2 3

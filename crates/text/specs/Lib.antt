@@ -1,4 +1,2 @@
-pub mod Decimal
-pub mod Asked
 pub mod Text
 pub mod Puts

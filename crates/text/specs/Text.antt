@@ -14,11 +14,11 @@ use Rattle.netlist.specs.Words.{inputsOf, gatesOf, outputsOf, gatePlace, gatesA
 use Rattle.instance.specs.Judging.{roomAnswer}
 use Rattle.cells.specs.Cells.{thresholdNet}
 use Rattle.emit.specs.Emit.{noThreshold}
-use Rattle.text.specs.declared.Asked.{Asked}
-use Rattle.text.specs.declared.Asked.the-variants.{Line, Nothing}
+use Rattle.line.specs.declared.Asked.{Asked}
+use Rattle.line.specs.declared.Asked.the-variants.{Line, Nothing}
+use Rattle.line.specs.Decimal.{decimal}
+use Rattle.line.specs.Asked.{askedOf}
 use Rattle.text.specs.declared.Printing.{Printing}
-use Rattle.text.specs.Decimal.{decimal}
-use Rattle.text.specs.Asked.{askedOf}
 
 -- "\n", " "
 abbrev pub newline : List ℕ

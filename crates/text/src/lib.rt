@@ -1,36 +1,21 @@
-// The printing program's work on lists of bytes: docs/RULES.md, "The printing program". What a whole input
-// asks, and the text that is printed for it.
+// The printing program's work on lists of bytes: docs/RULES.md, "The printing program". The text that is
+// printed for a whole input.
 mod gates;
-mod line;
 mod net;
 mod put;
 mod threshold;
 
 use answer::Answer;
-ghost use mathlib.Core.Path.{_≡_};
+use line::Asked;
 ghost use Prim.Native.Nat.{_≤_};
 ghost use lib.ListN.{length, take};
-ghost use Rattle.text.specs.Asked.{askedOf};
 ghost use Rattle.text.specs.Text.{printed, Kept, Printed};
 ghost use Rattle.text.specs.Puts.{Wrote};
-
-// A line "d n", or anything else.
-pub enum Asked {
-    Line { d: u32, n: u32 },
-    Nothing,
-}
 
 // The answer, with the length of the text, 0 on a refusal.
 pub struct Printing {
     pub answer: Answer,
     pub size: usize,
-}
-
-// What a whole input asks.
-pub fn parse(input: &[u8]) -> Asked
-    ensures { λ r. ⌜ r ≡ askedOf (now (input .entry)) ⌝ }
-{
-    line::asked(input)
 }
 
 // The text for an input, from byte 0 on, and its length. Netlists of up to 64 inputs have at most 4,289
@@ -39,7 +24,7 @@ fn write(input: &[u8], text: &mut [u8]) -> usize
     requires { ⌜ 131072 ≤ length (now text) ⌝ }
     ensures { λ r. ⌜ Wrote (printed (now (input .entry))) (now (text .entry)) 0 (now (text .exit)) r ⌝ }
 {
-    let asked = parse(input);
+    let asked = line::parse(input);
     let Asked::Line { d, n } = asked else {
         return put::put_bytes(text, 0, b"refused 13\n");
     };

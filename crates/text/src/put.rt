@@ -2,7 +2,7 @@
 // Room is the caller's to see to.
 ghost use Prim.Native.Nat.{_+_, _≤_};
 ghost use mathlib.Core.List.{[], _∷_};
-ghost use Rattle.text.specs.Decimal.{decimal};
+ghost use Rattle.line.specs.Decimal.{decimal};
 ghost use Rattle.text.specs.Text.{named};
 ghost use Rattle.text.specs.Puts.{Room, Wrote};
 

@@ -2,7 +2,7 @@ use native.Mathlib.Omega.{arith}
 use mathlib.Core.Path.{sym, subst, _∙_}
 use Rattle.text.specs.Puts.{Room, Wrote}
 use mathlib.Core.List.{List}
-use Rattle.text.proofs.Decimals.{decimal-low, decimal-high}
+use Rattle.line.proofs.Decimals.{decimal-low, decimal-high}
 use Rattle.text.proofs.Parts.{first-room, next-room, wrote-then, wrote-size}
 use denote.Ref.{now}
 use Prim.Native.Nat.{ℕ, _<_}

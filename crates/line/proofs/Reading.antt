@@ -12,13 +12,13 @@ use lib.ListN.{length, getD, drop}
 use lib.Seq.{drop-cons}
 use lib.Dec.{ltb, leb, eqb}
 use Rattle.answer.specs.Choose.{choose}
-use Rattle.text.specs.declared.Asked.{Asked}
-use Rattle.text.specs.declared.Asked.the-variants.{Line, Nothing}
-use Rattle.text.specs.declared.line.Number.{Number}
-use Rattle.text.specs.declared.line.Number.the-variants.{Read, Missing}
-use Rattle.text.specs.Asked.{isDigit, numberAt, endedBy, followed, askedOf}
-use Rattle.text.specs.Decimal.{decimal}
-use Rattle.text.proofs.Decimals.{decimal-low, decimal-two, decimal-three}
+use Rattle.line.specs.declared.Asked.{Asked}
+use Rattle.line.specs.declared.Asked.the-variants.{Line, Nothing}
+use Rattle.line.specs.declared.Number.{Number}
+use Rattle.line.specs.declared.Number.the-variants.{Read, Missing}
+use Rattle.line.specs.Asked.{isDigit, numberAt, endedBy, followed, askedOf}
+use Rattle.line.specs.Decimal.{decimal}
+use Rattle.line.proofs.Decimals.{decimal-low, decimal-two, decimal-three}
 
 pub digit-below : (b : ℕ) → b < 48 → false ≡ isDigit b
 unfolding isDigit

@@ -1,11 +1,16 @@
-// A line "d n" read from a whole input.
-use crate::Asked;
+// The line "d n" that the printing program reads: docs/RULES.md, "The printing program".
 ghost use mathlib.Core.Path.{_≡_};
 ghost use Prim.Native.Nat.{_-_, _≤_};
-ghost use Rattle.text.specs.Asked.{isDigit, numberAt, endedBy, askedOf};
+ghost use Rattle.line.specs.Asked.{isDigit, numberAt, endedBy, askedOf};
+
+// A line "d n", or anything else.
+pub enum Asked {
+    Line { d: u32, n: u32 },
+    Nothing,
+}
 
 // A number and the place past it, or none.
-pub(crate) enum Number {
+enum Number {
     Read { value: u32, past: usize },
     Missing,
 }
@@ -81,7 +86,7 @@ fn ended(input: &[u8], d: u32, second: Number) -> Asked
 }
 
 // What a whole input asks.
-pub(crate) fn asked(input: &[u8]) -> Asked
+pub fn parse(input: &[u8]) -> Asked
     ensures { λ r. ⌜ r ≡ askedOf (now (input .entry)) ⌝ }
 {
     let first = read_number(input, 0);

@@ -2,10 +2,10 @@ use denote.Ref.{now}
 use Prim.Native.Nat.{_<_}
 use lib.ListN.{length}
 use native.Mathlib.Omega.{arith}
-use Rattle.text.proofs.Reading.{inside, ended-none, ended-other, ended-more, ended-line}
+use Rattle.line.proofs.Reading.{inside, ended-none, ended-other, ended-more, ended-line}
 use borrow.Author.Needs.{needs}
-use Rattle.text.proofs.line.ended.Statement.{statement}
-use Rattle.text.proofs.line.ended.Tie as tie
+use Rattle.line.proofs.ended.Statement.{statement}
+use Rattle.line.proofs.ended.Tie as tie
 
 enum-known-second : tie.Need-enum-known-second
 enum-known-second c = search needs

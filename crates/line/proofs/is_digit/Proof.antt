@@ -1,6 +1,6 @@
-use Rattle.text.proofs.Reading.{digit-below, digit-above}
-use Rattle.text.proofs.line.is_digit.Statement.{statement}
-use Rattle.text.proofs.line.is_digit.Tie as tie
+use Rattle.line.proofs.Reading.{digit-below, digit-above}
+use Rattle.line.proofs.is_digit.Statement.{statement}
+use Rattle.line.proofs.is_digit.Tie as tie
 
 returns : tie.Need-returns
 returns c = digit-below _ (c .if1 .taken)

@@ -11,22 +11,16 @@ use lib.Dec.{eqb}
 use lib.ListN.{length, getD, drop, length-append, drop-of-length-le}
 use lib.Seq.{drop-cons, getD-append-add, getD-append-seam}
 use Rattle.answer.specs.Choose.{choose}
-use Rattle.text.specs.declared.Asked.{Asked}
-use Rattle.text.specs.declared.Asked.the-variants.{Line, Nothing}
-use Rattle.text.specs.declared.line.Number.{Number}
-use Rattle.text.specs.declared.line.Number.the-variants.{Read, Missing}
-use Rattle.text.specs.Decimal.{decimal}
-use Rattle.text.specs.Asked.{isDigit, lineOf, numberAt, endedBy, followed, askedOf}
-use Rattle.text.specs.Text.{printed, textOf, refusal}
-use Rattle.text.proofs.Decimals.{decimal-low, decimal-two, decimal-three, decimal-3}
-use Rattle.text.proofs.Reading.{Digits, inside, number-only, number-zero, number-one, number-two, number-three, asked-rest, ended-line}
+use Rattle.line.specs.declared.Asked.{Asked}
+use Rattle.line.specs.declared.Asked.the-variants.{Line, Nothing}
+use Rattle.line.specs.declared.Number.{Number}
+use Rattle.line.specs.declared.Number.the-variants.{Read, Missing}
+use Rattle.line.specs.Decimal.{decimal}
+use Rattle.line.specs.Asked.{isDigit, lineOf, IsLine, numberAt, endedBy, followed, askedOf}
+use Rattle.line.proofs.Decimals.{decimal-low, decimal-two, decimal-three, decimal-3}
+use Rattle.line.proofs.Reading.{Digits, inside, number-only, number-zero, number-one, number-two, number-three, asked-rest, ended-line}
 
 -- ---- an input that asks for a line is that line
-pub record IsLine (s : List ℕ) (d n : ℕ) : Type 0 where
-  pub line : s ≡ lineOf d n
-  pub first : d ≤ 999
-  pub second : n ≤ 999
-
 byte-next : (s : List ℕ) (i b : ℕ) → getD s i 0 ≡ b → 0 < b → drop i s ≡ b ∷ drop (i + 1) s
 byte-next s i b e h = rw (add-one i, ← e) (drop-cons s i 0 (inside s i b (sym e) h))
 
@@ -165,16 +159,15 @@ asked-line d n h k =
     (asked-rest s (numberAt s 0) d i 32 refl first b (numberAt s (i + 1)) (Line d n) refl refl
     (ended-line s d (numberAt s (i + 1)) n j 10 second c refl l))
 
--- An input longer than any line asks for nothing: what follows its first bytes cannot matter.
+-- ---- an input longer than any line asks for nothing
 line-most : (s : List ℕ) (d n : ℕ) → IsLine s d n → length s ≤ 8
 unfolding lineOf
 line-most s d n l =
     omega (arith, ap length (l .line), length-append (decimal d ++ 32 ∷ decimal n) (10 ∷ []), length-append (decimal d) (32 ∷ decimal n), decimal-3 d (omega (arith, l .first)), decimal-3 n (omega (arith, l .second)))
 
-asked-short : (s : List ℕ) (a : Asked) → askedOf s ≡ a → 8 < length s → a ≡ Nothing
-asked-short s Nothing e h = refl
-asked-short s (Line d n) e h = absurd (omega (arith, line-most s d n (asked-only s d n e)))
+long-asks : (s : List ℕ) (a : Asked) → askedOf s ≡ a → 8 < length s → a ≡ Nothing
+long-asks s Nothing e h = refl
+long-asks s (Line d n) e h = absurd (omega (arith, line-most s d n (asked-only s d n e)))
 
-pub long-refused : (s : List ℕ) → 8 < length s → printed s ≡ refusal
-unfolding printed textOf
-long-refused s h = rw (asked-short s (askedOf s) refl h)
+pub long-nothing : (s : List ℕ) → 8 < length s → askedOf s ≡ Nothing
+long-nothing s h = long-asks s (askedOf s) refl h

@@ -1,8 +1,8 @@
 use native.Mathlib.Omega.{arith}
-use Rattle.text.proofs.Reading.{number-past, asked-none, asked-other, asked-rest}
+use Rattle.line.proofs.Reading.{number-past, asked-none, asked-other, asked-rest}
 use borrow.Author.Needs.{needs}
-use Rattle.text.proofs.line.asked.Statement.{statement}
-use Rattle.text.proofs.line.asked.Tie as tie
+use Rattle.line.proofs.parse.Statement.{statement}
+use Rattle.line.proofs.parse.Tie as tie
 
 read-number-requires : tie.Need-read-number-requires
 read-number-requires c κs = search needs
@@ -34,8 +34,8 @@ ended-requires c κs = search needs
 returns-3 : tie.Need-returns-3
 returns-3 c = asked-rest _ _ _ _ _ (c .before .before .before .before .before .before .before .read-number .ensures) (c .before .before .before .before .before .first .given .1) (c .before .before .before .byte-at .ensures) _ _ (c .before .before .if1 .left) (c .before .read-number2 .ensures) (c .ended .ensures)
 
-pub asked-spec : {M : Type 1} → statement M
-asked-spec =
+pub parse-spec : {M : Type 1} → statement M
+parse-spec =
     tie.close
     (tie.spec
     read-number-requires

@@ -1,9 +1,9 @@
-use Rattle.text.proofs.Reading.{number-missing, number-zero, number-one, number-two, number-three}
+use Rattle.line.proofs.Reading.{number-missing, number-zero, number-one, number-two, number-three}
 use borrow.Author.Tests.{not-true, not-false}
 use mathlib.Core.Path.{sym, _∙_}
 use borrow.Author.Needs.{needs}
-use Rattle.text.proofs.line.read_number.Statement.{statement}
-use Rattle.text.proofs.line.read_number.Tie as tie
+use Rattle.line.proofs.read_number.Statement.{statement}
+use Rattle.line.proofs.read_number.Tie as tie
 
 byte-at-requires : tie.Need-byte-at-requires
 byte-at-requires c κs = search needs

@@ -1,20 +1,27 @@
 -- What a whole input asks. docs/RULES.md, "The printing program": one line "d n", decimals of 1 to 3 digits without
 -- needless zeros, one space, newline. `asked-line` and `asked-only` say that `askedOf` is this and nothing else.
-use Prim.Native.Nat.{ℕ, _+_, _*_, _-_}
+use Prim.Native.Nat.{ℕ, _+_, _*_, _-_, _≤_}
 use mathlib.Core.Bool.{Bool, false}
+use mathlib.Core.Path.{_≡_}
 use mathlib.Core.List.{List, [], _∷_, _++_}
 use lib.ListN.{length, getD}
 use lib.Dec.{ltb, leb, eqb}
 use Rattle.answer.specs.Choose.{choose}
-use Rattle.text.specs.declared.Asked.{Asked}
-use Rattle.text.specs.declared.Asked.the-variants.{Line, Nothing}
-use Rattle.text.specs.declared.line.Number.{Number}
-use Rattle.text.specs.declared.line.Number.the-variants.{Read, Missing}
-use Rattle.text.specs.Decimal.{decimal}
+use Rattle.line.specs.declared.Asked.{Asked}
+use Rattle.line.specs.declared.Asked.the-variants.{Line, Nothing}
+use Rattle.line.specs.declared.Number.{Number}
+use Rattle.line.specs.declared.Number.the-variants.{Read, Missing}
+use Rattle.line.specs.Decimal.{decimal}
 
 -- the line "d n"
 unfoldable pub lineOf : ℕ → ℕ → List ℕ
 lineOf d n = decimal d ++ 32 ∷ decimal n ++ 10 ∷ []
+
+-- what a line is
+pub record IsLine (s : List ℕ) (d n : ℕ) : Type 0 where
+  pub line : s ≡ lineOf d n
+  pub first : d ≤ 999
+  pub second : n ≤ 999
 
 -- '0' to '9'
 unfoldable pub isDigit : ℕ → Bool
