@@ -19,7 +19,7 @@ use Rattle.line.specs.declared.Asked.the-variants.{Line, Nothing}
 use Rattle.line.specs.Decimal.{decimal}
 use Rattle.line.specs.Asked.{askedOf}
 use Rattle.line.proofs.Decimals.{decimal-4}
-use Rattle.text.specs.Text.{named, newline, space, titleLine, sizes, costs, gateText, gateLine, gateLines, outLine, outLines, netText, refusal, thresholdText, textOf, printed}
+use Rattle.text.specs.Text.{named, newline, space, pair, triple, titleLine, sizes, costs, gateText, gateLine, gateLines, outLine, outLines, netText, refusal, thresholdText, textOf, printed}
 use Rattle.text.proofs.Thresholds.{depth-none, depth-some}
 
 named-most : (name : List ℕ) (n : ℕ) → n < 10000 → length (named name n) ≤ length name + 4
@@ -36,10 +36,17 @@ three a b c = omega (arith, length-append (a ++ b) c, length-append a b)
 four : (a b c d : List ℕ) → length (a ++ b ++ c ++ d) ≡ length a + length b + length c + length d
 four a b c d = omega (arith, length-append (a ++ b ++ c) d, three a b c)
 
+pair-most : (name : List ℕ) (a b : ℕ) → a < 10000 → b < 10000 → length (pair name a b) ≤ length name + 9
+unfolding pair
+pair-most name a b h k = omega (arith, two (named name a) (named space b), named-most name a h, named-most space b k)
+
+triple-most : (name : List ℕ) (a b c : ℕ) → a < 10000 → b < 10000 → c < 10000 → length (triple name a b c) ≤ length name + 14
+unfolding triple
+triple-most name a b c h k l = omega (arith, two (pair name a b) (named space c), pair-most name a b h k, named-most space c l)
+
 title-most : (d n : ℕ) → d < 10000 → n < 10000 → length (titleLine d n) ≤ 12
 unfolding titleLine
-title-most d n h k =
-    omega (arith, three (named (84 ∷ 32 ∷ []) d) (named space n) newline, named-most (84 ∷ 32 ∷ []) d h, named-most space n k)
+title-most d n h k = omega (arith, two (pair (84 ∷ 32 ∷ []) d n) newline, pair-most (84 ∷ 32 ∷ []) d n h k)
 
 sizes-most : (I G O : ℕ) → I < 10000 → G < 10000 → O < 10000 → length (sizes I G O) ≤ 27
 unfolding sizes
@@ -61,22 +68,10 @@ unfolding gateText
 gate-most w Zero h u = omega arith
 gate-most w One h u = omega arith
 gate-most w (Not a) h u = omega (arith, named-most (32 ∷ 78 ∷ 79 ∷ 84 ∷ 32 ∷ []) a (omega arith))
-gate-most w (Xor a b) h u =
-    let x : List ℕ = 32 ∷ 88 ∷ 79 ∷ 82 ∷ 32 ∷ [] in
-    let p : a < 10000 = omega arith in
-    let q : b < 10000 = omega arith in
-    omega (arith, two (named x a) (named space b), named-most x a p, named-most space b q)
-gate-most w (And a b) h u =
-    let x : List ℕ = 32 ∷ 65 ∷ 78 ∷ 68 ∷ 32 ∷ [] in
-    let p : a < 10000 = omega arith in
-    let q : b < 10000 = omega arith in
-    omega (arith, two (named x a) (named space b), named-most x a p, named-most space b q)
+gate-most w (Xor a b) h u = omega (arith, pair-most (32 ∷ 88 ∷ 79 ∷ 82 ∷ 32 ∷ []) a b (omega arith) (omega arith))
+gate-most w (And a b) h u = omega (arith, pair-most (32 ∷ 65 ∷ 78 ∷ 68 ∷ 32 ∷ []) a b (omega arith) (omega arith))
 gate-most w (Mux a b c) h u =
-    let x : List ℕ = 32 ∷ 77 ∷ 85 ∷ 88 ∷ 32 ∷ [] in
-    let p : a < 10000 = omega arith in
-    let q : b < 10000 = omega arith in
-    let r : c < 10000 = omega arith in
-    omega (arith, three (named x a) (named space b) (named space c), named-most x a p, named-most space b q, named-most space c r)
+    omega (arith, triple-most (32 ∷ 77 ∷ 85 ∷ 88 ∷ 32 ∷ []) a b c (omega arith) (omega arith) (omega arith))
 
 gate-line-most : (w : ℕ) (g : Gate) → w < 10000 → Uses w g → length (gateLine w g) ≤ 24
 unfolding gateLine

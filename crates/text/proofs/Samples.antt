@@ -7,7 +7,7 @@ use Rattle.cells.proofs.Samples.{two-of-three}
 use Rattle.emit.specs.Emit.{noThreshold}
 use Rattle.line.specs.Decimal.{digits, decimal}
 use Rattle.line.specs.Asked.{isDigit, numberAt, endedBy, followed, askedOf}
-use Rattle.text.specs.Text.{named, titleLine, sizes, costs, gateText, gateLine, gateLines, outLine, outLines, netText, thresholdText, textOf, printed}
+use Rattle.text.specs.Text.{named, pair, triple, titleLine, sizes, costs, gateText, gateLine, gateLines, outLine, outLines, netText, thresholdText, textOf, printed}
 
 -- 2 3
 abbrev pub example : List ℕ
@@ -34,5 +34,5 @@ exampleText =
     ∷ []
 
 pub example-printed : printed example ≡ exampleText
-unfolding isDigit numberAt endedBy followed askedOf digits decimal named titleLine sizes costs gateText gateLine gateLines outLine outLines netText noThreshold thresholdText textOf printed
+unfolding isDigit numberAt endedBy followed askedOf digits decimal named pair triple titleLine sizes costs gateText gateLine gateLines outLine outLines netText noThreshold thresholdText textOf printed
 example-printed = ap (λ (net : Net). titleLine 2 3 ++ netText net) two-of-three

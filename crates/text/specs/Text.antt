@@ -31,9 +31,16 @@ space = 32 ∷ []
 unfoldable pub named : List ℕ → ℕ → List ℕ
 named name n = name ++ decimal n
 
+-- two numbers, or three, with a space between
+unfoldable pub pair : List ℕ → ℕ → ℕ → List ℕ
+pair name a b = named name a ++ named space b
+
+unfoldable pub triple : List ℕ → ℕ → ℕ → ℕ → List ℕ
+triple name a b c = pair name a b ++ named space c
+
 -- "T d n"
 unfoldable pub titleLine : ℕ → ℕ → List ℕ
-titleLine d n = named (84 ∷ 32 ∷ []) d ++ named space n ++ newline
+titleLine d n = pair (84 ∷ 32 ∷ []) d n ++ newline
 
 -- "in I gates G out O", and " depth D mult M" to the line's end
 unfoldable pub sizes : ℕ → ℕ → ℕ → List ℕ
@@ -53,9 +60,9 @@ unfoldable pub gateText : Gate → List ℕ
 gateText Zero = 32 ∷ 90 ∷ 69 ∷ 82 ∷ 79 ∷ []
 gateText One = 32 ∷ 79 ∷ 78 ∷ 69 ∷ []
 gateText (Not a) = named (32 ∷ 78 ∷ 79 ∷ 84 ∷ 32 ∷ []) a
-gateText (Xor a b) = named (32 ∷ 88 ∷ 79 ∷ 82 ∷ 32 ∷ []) a ++ named space b
-gateText (And a b) = named (32 ∷ 65 ∷ 78 ∷ 68 ∷ 32 ∷ []) a ++ named space b
-gateText (Mux a b c) = named (32 ∷ 77 ∷ 85 ∷ 88 ∷ 32 ∷ []) a ++ named space b ++ named space c
+gateText (Xor a b) = pair (32 ∷ 88 ∷ 79 ∷ 82 ∷ 32 ∷ []) a b
+gateText (And a b) = pair (32 ∷ 65 ∷ 78 ∷ 68 ∷ 32 ∷ []) a b
+gateText (Mux a b c) = triple (32 ∷ 77 ∷ 85 ∷ 88 ∷ 32 ∷ []) a b c
 
 unfoldable pub gateLine : ℕ → Gate → List ℕ
 gateLine w g = decimal w ++ gateText g ++ newline

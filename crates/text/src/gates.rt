@@ -2,6 +2,8 @@
 use crate::put::put_bytes;
 use crate::put::put_decimal;
 use crate::put::put_named;
+use crate::put::put_pair;
+use crate::put::put_triple;
 use netlist::gate::Gate;
 use netlist::gate::Taken;
 ghost use mathlib.Core.Path.{_≡_};
@@ -18,19 +20,9 @@ fn put_kind(out: &mut [u8], at: usize, gate: Gate) -> usize
         Gate::Zero => put_bytes(out, at, b" ZERO"),
         Gate::One => put_bytes(out, at, b" ONE"),
         Gate::Not(a) => put_named(out, at, b" NOT ", a),
-        Gate::Xor(a, b) => {
-            let i = put_named(out, at, b" XOR ", a);
-            put_named(out, i, b" ", b)
-        }
-        Gate::And(a, b) => {
-            let i = put_named(out, at, b" AND ", a);
-            put_named(out, i, b" ", b)
-        }
-        Gate::Mux(a, b, c) => {
-            let i = put_named(out, at, b" MUX ", a);
-            let j = put_named(out, i, b" ", b);
-            put_named(out, j, b" ", c)
-        }
+        Gate::Xor(a, b) => put_pair(out, at, b" XOR ", a, b),
+        Gate::And(a, b) => put_pair(out, at, b" AND ", a, b),
+        Gate::Mux(a, b, c) => put_triple(out, at, b" MUX ", a, b, c),
     }
 }
 

@@ -48,12 +48,19 @@ fn keep(text: &[u8], size: usize, result: &mut [u8]) -> Printing
     }
 }
 
-// What is printed on a whole input, at the front of the result. It is never longer than 131,072 bytes
-// (`printed-fits`).
+// What is printed on a whole input, at the front of the result. The text is made in a list that is lent.
+fn print_with(input: &[u8], text: &mut [u8], result: &mut [u8]) -> Printing
+    requires { ⌜ 131072 ≤ length (now text) ⌝ }
+    ensures { λ r. ⌜ Printed (now (input .entry)) (now (result .entry)) r (now (result .exit)) ⌝ }
+{
+    let size = write(input, text);
+    keep(text, size, result)
+}
+
+// The same, with a list of its own. The text is never longer than 131,072 bytes (`printed-fits`).
 pub fn print_text(input: &[u8], result: &mut [u8]) -> Printing
     ensures { λ r. ⌜ Printed (now (input .entry)) (now (result .entry)) r (now (result .exit)) ⌝ }
 {
     let mut text = [0u8; 131072];
-    let size = write(input, &mut text);
-    keep(&text, size, result)
+    print_with(input, &mut text, result)
 }

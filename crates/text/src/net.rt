@@ -2,6 +2,7 @@
 use crate::gates::put_gates;
 use crate::put::put_bytes;
 use crate::put::put_named;
+use crate::put::put_pair;
 ghost use Prim.Native.Nat.{_+_, _≤_};
 ghost use lib.ListN.{drop};
 ghost use Rattle.netlist.specs.Words.{inputsOf, gatesOf};
@@ -12,9 +13,8 @@ pub(crate) fn put_title(out: &mut [u8], at: usize, d: u32, n: u32) -> usize
     requires { ⌜ Room (titleLine d n) (now out) at ⌝ }
     ensures { λ r. ⌜ Wrote (titleLine d n) (now (out .entry)) at (now (out .exit)) r ⌝ }
 {
-    let i = put_named(out, at, b"T ", d);
-    let j = put_named(out, i, b" ", n);
-    put_bytes(out, j, b"\n")
+    let i = put_pair(out, at, b"T ", d, n);
+    put_bytes(out, i, b"\n")
 }
 
 fn put_sizes(out: &mut [u8], at: usize, inputs: u32, gates: u32, outputs: u32) -> usize

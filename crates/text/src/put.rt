@@ -3,7 +3,7 @@
 ghost use Prim.Native.Nat.{_+_, _≤_};
 ghost use mathlib.Core.List.{[], _∷_};
 ghost use Rattle.line.specs.Decimal.{decimal};
-ghost use Rattle.text.specs.Text.{named};
+ghost use Rattle.text.specs.Text.{named, pair, triple};
 ghost use Rattle.text.specs.Puts.{Room, Wrote};
 
 pub(crate) fn put_bytes(out: &mut [u8], at: usize, bytes: &[u8]) -> usize
@@ -48,4 +48,21 @@ pub(crate) fn put_named(out: &mut [u8], at: usize, name: &[u8], n: u32) -> usize
 {
     let i = put_bytes(out, at, name);
     put_decimal(out, i, n)
+}
+
+// The same with two numbers, or three, and a space between.
+pub(crate) fn put_pair(out: &mut [u8], at: usize, name: &[u8], a: u32, b: u32) -> usize
+    requires { ⌜ Room (pair (now name) a b) (now out) at ⌝ }
+    ensures { λ r. ⌜ Wrote (pair (now (name .entry)) a b) (now (out .entry)) at (now (out .exit)) r ⌝ }
+{
+    let i = put_named(out, at, name, a);
+    put_named(out, i, b" ", b)
+}
+
+pub(crate) fn put_triple(out: &mut [u8], at: usize, name: &[u8], a: u32, b: u32, c: u32) -> usize
+    requires { ⌜ Room (triple (now name) a b c) (now out) at ⌝ }
+    ensures { λ r. ⌜ Wrote (triple (now (name .entry)) a b c) (now (out .entry)) at (now (out .exit)) r ⌝ }
+{
+    let i = put_pair(out, at, name, a, b);
+    put_named(out, i, b" ", c)
 }

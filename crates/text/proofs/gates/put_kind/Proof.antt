@@ -1,4 +1,3 @@
-use Rattle.text.proofs.Parts.{first-room, next-room, wrote-then}
 use Rattle.text.specs.Text.{gateText}
 use borrow.Author.Needs.{needs}
 use Rattle.text.proofs.gates.put_kind.Statement.{statement}
@@ -37,60 +36,32 @@ put-named-requires c κs = rw (c .before .before .before .gate .given .1) at (c 
 enum-known-gate-2 : tie.Need-enum-known-gate-2
 enum-known-gate-2 c = search needs
 
-slice-aggregate-put-named-2 : tie.Need-slice-aggregate-put-named-2
-slice-aggregate-put-named-2 c = search needs
+slice-aggregate-put-pair : tie.Need-slice-aggregate-put-pair
+slice-aggregate-put-pair c = search needs
 
-put-named-requires-2 : tie.Need-put-named-requires-2
+put-pair-requires : tie.Need-put-pair-requires
 unfolding gateText
-put-named-requires-2 c κs = first-room _ (rw (c .before .before .before .gate2 .given .1) at (c .before .before .before .before .before .before .pre))
-
-slice-aggregate-put-named-3 : tie.Need-slice-aggregate-put-named-3
-slice-aggregate-put-named-3 c = search needs
-
-put-named-requires-3 : tie.Need-put-named-requires-3
-unfolding gateText
-put-named-requires-3 c κs = next-room (c .before .before .before .before .put-named2 .ensures) (rw (c .before .before .before .before .before .before .before .before .gate2 .given .1) at (c .before .before .before .before .before .before .before .before .before .before .before .pre))
+put-pair-requires c κs = rw (c .before .before .before .gate2 .given .1) at (c .before .before .before .before .before .before .pre)
 
 enum-known-gate-3 : tie.Need-enum-known-gate-3
 enum-known-gate-3 c = search needs
 
-slice-aggregate-put-named-4 : tie.Need-slice-aggregate-put-named-4
-slice-aggregate-put-named-4 c = search needs
+slice-aggregate-put-pair-2 : tie.Need-slice-aggregate-put-pair-2
+slice-aggregate-put-pair-2 c = search needs
 
-put-named-requires-4 : tie.Need-put-named-requires-4
+put-pair-requires-2 : tie.Need-put-pair-requires-2
 unfolding gateText
-put-named-requires-4 c κs = first-room _ (rw (c .before .before .before .gate3 .given .1) at (c .before .before .before .before .before .before .pre))
-
-slice-aggregate-put-named-5 : tie.Need-slice-aggregate-put-named-5
-slice-aggregate-put-named-5 c = search needs
-
-put-named-requires-5 : tie.Need-put-named-requires-5
-unfolding gateText
-put-named-requires-5 c κs = next-room (c .before .before .before .before .put-named4 .ensures) (rw (c .before .before .before .before .before .before .before .before .gate3 .given .1) at (c .before .before .before .before .before .before .before .before .before .before .before .pre))
+put-pair-requires-2 c κs = rw (c .before .before .before .gate3 .given .1) at (c .before .before .before .before .before .before .pre)
 
 enum-known-gate-4 : tie.Need-enum-known-gate-4
 enum-known-gate-4 c = search needs
 
-slice-aggregate-put-named-6 : tie.Need-slice-aggregate-put-named-6
-slice-aggregate-put-named-6 c = search needs
+slice-aggregate-put-triple : tie.Need-slice-aggregate-put-triple
+slice-aggregate-put-triple c = search needs
 
-put-named-requires-6 : tie.Need-put-named-requires-6
+put-triple-requires : tie.Need-put-triple-requires
 unfolding gateText
-put-named-requires-6 c κs = first-room _ (first-room _ (rw (c .before .before .before .gate4 .given .1) at (c .before .before .before .before .before .before .pre)))
-
-slice-aggregate-put-named-7 : tie.Need-slice-aggregate-put-named-7
-slice-aggregate-put-named-7 c = search needs
-
-put-named-requires-7 : tie.Need-put-named-requires-7
-unfolding gateText
-put-named-requires-7 c κs = next-room (c .before .before .before .before .put-named6 .ensures) (first-room _ (rw (c .before .before .before .before .before .before .before .before .gate4 .given .1) at (c .before .before .before .before .before .before .before .before .before .before .before .pre)))
-
-slice-aggregate-put-named-8 : tie.Need-slice-aggregate-put-named-8
-slice-aggregate-put-named-8 c = search needs
-
-put-named-requires-8 : tie.Need-put-named-requires-8
-unfolding gateText
-put-named-requires-8 c κs = next-room (wrote-then (c .before .before .before .before .before .before .before .before .before .put-named6 .ensures) (c .before .before .before .before .put-named7 .ensures)) (rw (c .before .before .before .before .before .before .before .before .before .before .before .before .before .gate4 .given .1) at (c .before .before .before .before .before .before .before .before .before .before .before .before .before .before .before .before .pre))
+put-triple-requires c κs = rw (c .before .before .before .gate4 .given .1) at (c .before .before .before .before .before .before .pre)
 
 same-length : tie.Need-same-length
 same-length c = search needs
@@ -118,21 +89,21 @@ same-length-4 c = search needs
 
 returns-4 : tie.Need-returns-4
 unfolding gateText
-returns-4 c = rw (c .before .before .before .before .before .before .before .before .before .before .before .gate2 .given .1) (wrote-then (c .before .before .before .before .before .before .before .put-named2 .ensures) (c .before .before .put-named3 .ensures))
+returns-4 c = rw (c .before .before .before .before .before .before .gate2 .given .1) (c .before .before .put-pair .ensures)
 
 same-length-5 : tie.Need-same-length-5
 same-length-5 c = search needs
 
 returns-5 : tie.Need-returns-5
 unfolding gateText
-returns-5 c = rw (c .before .before .before .before .before .before .before .before .before .before .before .gate3 .given .1) (wrote-then (c .before .before .before .before .before .before .before .put-named4 .ensures) (c .before .before .put-named5 .ensures))
+returns-5 c = rw (c .before .before .before .before .before .before .gate3 .given .1) (c .before .before .put-pair2 .ensures)
 
 same-length-6 : tie.Need-same-length-6
 same-length-6 c = search needs
 
 returns-6 : tie.Need-returns-6
 unfolding gateText
-returns-6 c = rw (c .before .before .before .before .before .before .before .before .before .before .before .before .before .before .before .before .gate4 .given .1) (wrote-then (wrote-then (c .before .before .before .before .before .before .before .before .before .before .before .before .put-named6 .ensures) (c .before .before .before .before .before .before .before .put-named7 .ensures)) (c .before .before .put-named8 .ensures))
+returns-6 c = rw (c .before .before .before .before .before .before .gate4 .given .1) (c .before .before .put-triple .ensures)
 
 pub put-kind-spec : {M : Type 1} → statement M
 put-kind-spec =
@@ -148,22 +119,14 @@ put-kind-spec =
     slice-aggregate-put-named
     put-named-requires
     enum-known-gate-2
-    slice-aggregate-put-named-2
-    put-named-requires-2
-    slice-aggregate-put-named-3
-    put-named-requires-3
+    slice-aggregate-put-pair
+    put-pair-requires
     enum-known-gate-3
-    slice-aggregate-put-named-4
-    put-named-requires-4
-    slice-aggregate-put-named-5
-    put-named-requires-5
+    slice-aggregate-put-pair-2
+    put-pair-requires-2
     enum-known-gate-4
-    slice-aggregate-put-named-6
-    put-named-requires-6
-    slice-aggregate-put-named-7
-    put-named-requires-7
-    slice-aggregate-put-named-8
-    put-named-requires-8
+    slice-aggregate-put-triple
+    put-triple-requires
     same-length
     returns
     same-length-2
