@@ -10,7 +10,7 @@ use Rattle.answer.specs.Choose.{choose}
 use Rattle.answer.specs.Fronts.{left}
 use Rattle.filter.specs.Filter.{tab}
 use Rattle.kreyvium.specs.Kreyvium.{streamOf}
-use Rattle.cipher.specs.Judging.{keystreamAnswer, encipherAnswer}
+use Rattle.judging.specs.Judging.{keystreamAnswer, encipherAnswer}
 use Rattle.cipher.specs.Rows.{streamBit}
 
 -- the m keystream bits; Kreyvium takes one IV for the whole record

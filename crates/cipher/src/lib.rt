@@ -1,6 +1,5 @@
 // Keystream, enciphering and deciphering with the six instances: docs/RULES.md, "Six instances" and "Rows".
 // After judging, no branch and no index depends on a bit of the key or of the record.
-mod judge;
 mod rows;
 mod stream;
 
@@ -48,7 +47,7 @@ pub fn keystream(
 ) -> Answer
     ensures { λ r. ⌜ Streamed instance m (now (key .entry)) (now (indices .entry)) (now (whitening .entry)) (now (result .entry)) r (now (result .exit)) ⌝ }
 {
-    let r = judge::keystream(instance, m, key, indices, whitening, result.len());
+    let r = judging::keystream(instance, m, key, indices, whitening, result.len());
     let Answer::Done = r else {
         return r;
     };
@@ -69,7 +68,7 @@ fn with_filter(
 ) -> Answer
     ensures { λ r. ⌜ Ciphered instance m (now (key .entry)) (now («record» .entry)) (now (indices .entry)) (now (whitening .entry)) (now (result .entry)) r (now (result .exit)) ⌝ }
 {
-    let r = judge::encipher(instance, m, key, record, indices, whitening, result.len());
+    let r = judging::encipher(instance, m, key, record, indices, whitening, result.len());
     let Answer::Done = r else {
         return r;
     };
@@ -91,7 +90,7 @@ fn with_kreyvium(
 ) -> Answer
     ensures { λ r. ⌜ Ciphered 6 m (now (key .entry)) (now («record» .entry)) (now (indices .entry)) (now (iv .entry)) (now (result .entry)) r (now (result .exit)) ⌝ }
 {
-    let r = judge::kreyvium(m, key, record, indices, iv, result.len());
+    let r = judging::kreyvium(m, key, record, indices, iv, result.len());
     let Answer::Done = r else {
         return r;
     };

@@ -20,7 +20,7 @@ use Rattle.choice.proofs.Accepted.{row-fits, choose-accepted}
 use Rattle.filter.specs.Filter.{tab}
 use Rattle.filter.proofs.Tab.{tab-length, tab-at}
 use Rattle.cipher.specs.Cipher.{keystreamOf, encipherOf, Streamed, Ciphered}
-use Rattle.cipher.proofs.Accepted.{keystream-accepted, encipher-accepted}
+use Rattle.judging.proofs.Accepted.{keystream-accepted, encipher-accepted}
 use Rattle.wiring.specs.Rows.{Inputs}
 use Rattle.emit.specs.Emit.{decipherAnswer, decipherNet, Emitted}
 use Rattle.emit.proofs.Accepted.{decipher-accepted, lent-of}

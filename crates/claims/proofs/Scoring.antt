@@ -22,7 +22,7 @@ use Rattle.instance.specs.Table.{keyBits}
 use Rattle.instance.specs.Wired.{Wired, Bits, Keyed}
 use Rattle.instance.proofs.Accepted.{done-room}
 use Rattle.cipher.specs.Cipher.{encipherOf, Ciphered}
-use Rattle.cipher.proofs.Accepted.{encipher-accepted}
+use Rattle.judging.proofs.Accepted.{encipher-accepted}
 use Rattle.evaluate.specs.Evaluate.{evaluateAnswer, Evaluated}
 use Rattle.evaluate.proofs.Accepted.{ready-done}
 use Rattle.glue.specs.Glue.{gluedSize, gluedWords, GluedAs}

@@ -16,7 +16,7 @@ use Rattle.answer.specs.Fronts.{left}
 use Rattle.instance.specs.Table.{sizesOf, whiteBits}
 use Rattle.instance.specs.Judging.{outside, numbersAnswer, lengthAnswer, firstAnswer, rowsAnswer, whiteAnswer, roomAnswer}
 use Rattle.kreyvium.specs.Kreyvium.{streamOf}
-use Rattle.cipher.specs.Judging.{wiringLengths, wiringAnswer, encipherAnswer}
+use Rattle.judging.specs.Judging.{wiringLengths, wiringAnswer, encipherAnswer}
 use Rattle.cipher.specs.Cipher.{keystreamOf, encipherOf, Ciphered}
 use Rattle.daemon.specs.Daemon.{withoutIndices, kreyviumAnswer, Enciphered}
 

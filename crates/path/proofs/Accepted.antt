@@ -13,8 +13,8 @@ use Rattle.netlist.proofs.Accepted.{done-sound}
 use Rattle.instance.specs.Table.{keyBits}
 use Rattle.instance.proofs.Judged.{room-done}
 use Rattle.instance.proofs.Accepted.{done-room}
-use Rattle.cipher.specs.Judging.{encipherAnswer}
-use Rattle.cipher.specs.Judging as judging
+use Rattle.judging.specs.Judging.{encipherAnswer}
+use Rattle.judging.specs.Judging as judging
 use Rattle.cipher.proofs.Accepted.{encipher-lent}
 use Rattle.wiring.specs.Rows.{Inputs}
 use Rattle.glue.specs.Glue.{gluedSize}

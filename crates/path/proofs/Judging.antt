@@ -17,8 +17,8 @@ use Rattle.instance.specs.Table.{keyBits, rowBits}
 use Rattle.instance.specs.Judging.{lengthAnswer, rowsAnswer, whiteAnswer, roomAnswer}
 use Rattle.instance.proofs.Judged.{length-done}
 use Rattle.instance.proofs.Accepted.{done-length, done-room}
-use Rattle.cipher.specs.Judging.{wiringLengths, encipherAnswer}
-use Rattle.cipher.specs.Judging as judging
+use Rattle.judging.specs.Judging.{wiringLengths, encipherAnswer}
+use Rattle.judging.specs.Judging as judging
 use Rattle.emit.specs.Emit.{wiringAnswer}
 use Rattle.path.specs.declared.Rooms.{Rooms}
 use Rattle.path.specs.Path.{decipherWords, roomsAnswer, scoreAnswer}

@@ -14,7 +14,7 @@ use Rattle.netlist.specs.Words.{inputsOf, gatesOf, outputsOf, words, netOf}
 use Rattle.netlist.specs.Check.{gateLimit, netAnswer}
 use Rattle.instance.specs.Table.{keyBits}
 use Rattle.instance.specs.Judging.{roomAnswer}
-use Rattle.cipher.specs.Judging.{encipherAnswer}
+use Rattle.judging.specs.Judging.{encipherAnswer}
 use Rattle.cipher.specs.Cipher.{encipherOf}
 use Rattle.glue.specs.Glue.{gluedSize, gluedWords}
 use Rattle.emit.specs.Emit.{decipherNet}

@@ -12,7 +12,7 @@ use Rattle.netlist.specs.Words.{inputsOf, gatesOf, outputsOf, gatePlace}
 use Rattle.netlist.specs.Check.{gateLimit, netAnswer}
 use Rattle.instance.specs.Table.{keyBits}
 use Rattle.instance.specs.Judging.{numbersAnswer, lengthAnswer}
-use Rattle.cipher.specs.Judging.{wiringLengths}
+use Rattle.judging.specs.Judging.{wiringLengths}
 use Rattle.path.specs.declared.Rooms.{Rooms}
 use Rattle.path.specs.Path.{roomsAnswer}
 

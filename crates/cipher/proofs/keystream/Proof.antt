@@ -6,7 +6,7 @@ use denote.Ref.{now}
 use Rattle.answer.specs.declared.Answer.the-variants.{Done}
 use Rattle.answer.proofs.Over.{kept, made}
 use Rattle.cipher.specs.Lent.{Lent}
-use Rattle.cipher.specs.Judging.{keystreamAnswer}
+use Rattle.judging.specs.Judging.{keystreamAnswer}
 use Rattle.cipher.proofs.Accepted.{keystream-lent}
 use Rattle.cipher.proofs.Written.{keystream-written}
 use borrow.Author.Needs.{needs}

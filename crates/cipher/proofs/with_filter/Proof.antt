@@ -6,7 +6,7 @@ use denote.Ref.{now}
 use Rattle.answer.specs.declared.Answer.the-variants.{Done}
 use Rattle.answer.proofs.Over.{kept, made}
 use Rattle.cipher.specs.Lent.{Lent}
-use Rattle.cipher.specs.Judging.{encipherAnswer}
+use Rattle.judging.specs.Judging.{encipherAnswer}
 use Rattle.cipher.proofs.Accepted.{encipher-lent}
 use Rattle.cipher.proofs.Written.{front-room, encipher-written}
 use borrow.Author.Needs.{needs}

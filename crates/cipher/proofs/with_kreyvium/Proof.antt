@@ -8,7 +8,7 @@ use Rattle.answer.specs.declared.Answer.the-variants.{Done}
 use Rattle.answer.proofs.Over.{kept, made}
 use Rattle.kreyvium.specs.Words.{tops}
 use Rattle.cipher.specs.Lent.{Lent}
-use Rattle.cipher.specs.Judging.{encipherAnswer}
+use Rattle.judging.specs.Judging.{encipherAnswer}
 use Rattle.cipher.specs.Cipher.{keystreamOf}
 use Rattle.cipher.proofs.Accepted.{encipher-lent, stream-lent, stream-of}
 use Rattle.cipher.proofs.Block.{stream-words}

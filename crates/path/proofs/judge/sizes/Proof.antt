@@ -5,7 +5,7 @@ use Rattle.answer.specs.Answers.{_▹_}
 use Rattle.instance.specs.declared.Sizes.{Sizes}
 use Rattle.instance.specs.Judging.{lengthAnswer}
 use Rattle.instance.proofs.Judged.{below}
-use Rattle.cipher.specs.Judging.{wiringLengths}
+use Rattle.judging.specs.Judging.{wiringLengths}
 use Rattle.path.specs.Steps.{sizesAnswer}
 use borrow.Author.Needs.{needs}
 use Rattle.path.proofs.judge.sizes.Statement.{statement}

@@ -1,8 +1,8 @@
 use Rattle.answer.proofs.Rows.{stop, go}
-use Rattle.cipher.specs.Judging.{keystreamAnswer}
+use Rattle.judging.specs.Judging.{encipherAnswer}
 use borrow.Author.Needs.{needs}
-use Rattle.cipher.proofs.judge.keystream.Statement.{statement}
-use Rattle.cipher.proofs.judge.keystream.Tie as tie
+use Rattle.judging.proofs.encipher.Statement.{statement}
+use Rattle.judging.proofs.encipher.Tie as tie
 
 numbers-requires : tie.Need-numbers-requires
 numbers-requires c κs = search needs
@@ -14,11 +14,11 @@ enum-told-2 : tie.Need-enum-told-2
 enum-told-2 c = search needs
 
 returns : tie.Need-returns
-unfolding keystreamAnswer
+unfolding encipherAnswer
 returns c = stop _ (c .before .before .numbers .ensures) (c .enum-told2 .given .1)
 
-key-lengths-requires : tie.Need-key-lengths-requires
-key-lengths-requires c κs = search needs
+record-lengths-requires : tie.Need-record-lengths-requires
+record-lengths-requires c κs = search needs
 
 enum-told-3 : tie.Need-enum-told-3
 enum-told-3 c = search needs
@@ -27,14 +27,14 @@ enum-told-4 : tie.Need-enum-told-4
 enum-told-4 c = search needs
 
 returns-2 : tie.Need-returns-2
-unfolding keystreamAnswer
+unfolding encipherAnswer
 returns-2 c =
     let l = c .before .before in
     let n = l .before .before .before in
-    go (n .numbers .ensures) (l .before .enum-told .given .1) (stop _ (l .key-lengths .ensures) (c .enum-told4 .given .1))
+    go (n .numbers .ensures) (l .before .enum-told .given .1) (stop _ (l .record-lengths .ensures) (c .enum-told4 .given .1))
 
-key-bits-requires : tie.Need-key-bits-requires
-key-bits-requires c κs = search needs
+record-bits-requires : tie.Need-record-bits-requires
+record-bits-requires c κs = search needs
 
 enum-told-5 : tie.Need-enum-told-5
 enum-told-5 c = search needs
@@ -43,39 +43,39 @@ enum-told-6 : tie.Need-enum-told-6
 enum-told-6 c = search needs
 
 returns-3 : tie.Need-returns-3
-unfolding keystreamAnswer
+unfolding encipherAnswer
 returns-3 c =
     let b = c .before .before in
     let l = b .before .before .before in
     let n = l .before .before .before in
     go (n .numbers .ensures) (l .before .enum-told .given .1)
-    (go (l .key-lengths .ensures) (b .before .enum-told3 .given .1) (stop _ (b .key-bits .ensures) (c .enum-told6 .given .1)))
+    (go (l .record-lengths .ensures) (b .before .enum-told3 .given .1) (stop _ (b .record-bits .ensures) (c .enum-told6 .given .1)))
 
 wiring-requires : tie.Need-wiring-requires
 wiring-requires c κs = search needs
 
 returns-4 : tie.Need-returns-4
-unfolding keystreamAnswer
+unfolding encipherAnswer
 returns-4 c =
     let b = c .before .before .before in
     let l = b .before .before .before in
     let n = l .before .before .before in
     go (n .numbers .ensures) (l .before .enum-told .given .1)
-    (go (l .key-lengths .ensures) (b .before .enum-told3 .given .1) (go (b .key-bits .ensures) (c .before .enum-told5 .given .1) (c .wiring .ensures)))
+    (go (l .record-lengths .ensures) (b .before .enum-told3 .given .1) (go (b .record-bits .ensures) (c .before .enum-told5 .given .1) (c .wiring .ensures)))
 
-pub keystream-spec : {M : Type 1} → statement M
-keystream-spec =
+pub encipher-spec : {M : Type 1} → statement M
+encipher-spec =
     tie.close
     (tie.spec
     numbers-requires
     enum-told
     enum-told-2
     returns
-    key-lengths-requires
+    record-lengths-requires
     enum-told-3
     enum-told-4
     returns-2
-    key-bits-requires
+    record-bits-requires
     enum-told-5
     enum-told-6
     returns-3

@@ -1,7 +1,7 @@
 use Rattle.answer.proofs.Rows.{stop, go}
 use borrow.Author.Needs.{needs}
-use Rattle.cipher.proofs.judge.record_bits.Statement.{statement}
-use Rattle.cipher.proofs.judge.record_bits.Tie as tie
+use Rattle.judging.proofs.record_bits.Statement.{statement}
+use Rattle.judging.proofs.record_bits.Tie as tie
 
 bits-requires : tie.Need-bits-requires
 bits-requires c κs = search needs

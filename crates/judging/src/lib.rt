@@ -7,7 +7,7 @@ ghost use Rattle.answer.specs.Answers.{_▹_};
 ghost use Rattle.answer.specs.Bits.{bitsAnswer};
 ghost use Rattle.instance.specs.Table.{keyBits};
 ghost use Rattle.instance.specs.Judging.{lengthAnswer};
-ghost use Rattle.cipher.specs.Judging.{wiringLengths, wiringAnswer, keystreamAnswer, encipherAnswer};
+ghost use Rattle.judging.specs.Judging.{wiringLengths, wiringAnswer, keystreamAnswer, encipherAnswer};
 
 // 3 on the indices and on the whitening or IV, of which there are so many.
 fn wiring_lengths(instance: u32, m: u32, indices: usize, whitening: usize, list: u32) -> Answer
@@ -47,7 +47,7 @@ fn wiring(
 }
 
 // What keystream is lent; room places for the result.
-pub(crate) fn keystream(
+pub fn keystream(
     instance: u32,
     m: u32,
     key: &[u8],
@@ -94,7 +94,7 @@ fn key_bits(key: &[u8], whitening: &[u8]) -> Answer
 }
 
 // What encipher and decipher are lent.
-pub(crate) fn encipher(
+pub fn encipher(
     instance: u32,
     m: u32,
     key: &[u8],
@@ -128,7 +128,7 @@ pub(crate) fn encipher(
 }
 
 // The same for instance 6. Its index list is empty and its IV is no whitening: there is no 5, 6 or 7.
-pub(crate) fn kreyvium(
+pub fn kreyvium(
     m: u32,
     key: &[u8],
     record: &[u8],

@@ -4,10 +4,10 @@ use Rattle.answer.proofs.Rows.{stop, go}
 use Rattle.instance.specs.declared.Sizes.{Sizes}
 use Rattle.instance.specs.Table.{keyBits, rowBits}
 use Rattle.instance.specs.Judging.{rowsAnswer}
-use Rattle.cipher.specs.Judging.{wiringAnswer}
+use Rattle.judging.specs.Judging.{wiringAnswer}
 use borrow.Author.Needs.{needs}
-use Rattle.cipher.proofs.judge.wiring.Statement.{statement}
-use Rattle.cipher.proofs.judge.wiring.Tie as tie
+use Rattle.judging.proofs.wiring.Statement.{statement}
+use Rattle.judging.proofs.wiring.Tie as tie
 
 -- the rows are judged by the table's sizes
 rows-are : (c : tie.After-rows) →

@@ -5,10 +5,10 @@ use native.Mathlib.Omega.{arith}
 use Rattle.answer.proofs.Rows.{stop, go}
 use Rattle.instance.specs.Judging.{lengthAnswer}
 use Rattle.instance.proofs.Judged.{below}
-use Rattle.cipher.specs.Judging.{wiringLengths}
+use Rattle.judging.specs.Judging.{wiringLengths}
 use borrow.Author.Needs.{needs}
-use Rattle.cipher.proofs.judge.wiring_lengths.Statement.{statement}
-use Rattle.cipher.proofs.judge.wiring_lengths.Tie as tie
+use Rattle.judging.proofs.wiring_lengths.Statement.{statement}
+use Rattle.judging.proofs.wiring_lengths.Tie as tie
 
 -- the indices are judged by the table's row
 indices-are : (c : tie.After-exact) →

@@ -1,8 +1,8 @@
 use Rattle.answer.proofs.Rows.{stop, go}
-use Rattle.cipher.specs.Judging.{encipherAnswer}
+use Rattle.judging.specs.Judging.{keystreamAnswer}
 use borrow.Author.Needs.{needs}
-use Rattle.cipher.proofs.judge.encipher.Statement.{statement}
-use Rattle.cipher.proofs.judge.encipher.Tie as tie
+use Rattle.judging.proofs.keystream.Statement.{statement}
+use Rattle.judging.proofs.keystream.Tie as tie
 
 numbers-requires : tie.Need-numbers-requires
 numbers-requires c κs = search needs
@@ -14,11 +14,11 @@ enum-told-2 : tie.Need-enum-told-2
 enum-told-2 c = search needs
 
 returns : tie.Need-returns
-unfolding encipherAnswer
+unfolding keystreamAnswer
 returns c = stop _ (c .before .before .numbers .ensures) (c .enum-told2 .given .1)
 
-record-lengths-requires : tie.Need-record-lengths-requires
-record-lengths-requires c κs = search needs
+key-lengths-requires : tie.Need-key-lengths-requires
+key-lengths-requires c κs = search needs
 
 enum-told-3 : tie.Need-enum-told-3
 enum-told-3 c = search needs
@@ -27,14 +27,14 @@ enum-told-4 : tie.Need-enum-told-4
 enum-told-4 c = search needs
 
 returns-2 : tie.Need-returns-2
-unfolding encipherAnswer
+unfolding keystreamAnswer
 returns-2 c =
     let l = c .before .before in
     let n = l .before .before .before in
-    go (n .numbers .ensures) (l .before .enum-told .given .1) (stop _ (l .record-lengths .ensures) (c .enum-told4 .given .1))
+    go (n .numbers .ensures) (l .before .enum-told .given .1) (stop _ (l .key-lengths .ensures) (c .enum-told4 .given .1))
 
-record-bits-requires : tie.Need-record-bits-requires
-record-bits-requires c κs = search needs
+key-bits-requires : tie.Need-key-bits-requires
+key-bits-requires c κs = search needs
 
 enum-told-5 : tie.Need-enum-told-5
 enum-told-5 c = search needs
@@ -43,39 +43,39 @@ enum-told-6 : tie.Need-enum-told-6
 enum-told-6 c = search needs
 
 returns-3 : tie.Need-returns-3
-unfolding encipherAnswer
+unfolding keystreamAnswer
 returns-3 c =
     let b = c .before .before in
     let l = b .before .before .before in
     let n = l .before .before .before in
     go (n .numbers .ensures) (l .before .enum-told .given .1)
-    (go (l .record-lengths .ensures) (b .before .enum-told3 .given .1) (stop _ (b .record-bits .ensures) (c .enum-told6 .given .1)))
+    (go (l .key-lengths .ensures) (b .before .enum-told3 .given .1) (stop _ (b .key-bits .ensures) (c .enum-told6 .given .1)))
 
 wiring-requires : tie.Need-wiring-requires
 wiring-requires c κs = search needs
 
 returns-4 : tie.Need-returns-4
-unfolding encipherAnswer
+unfolding keystreamAnswer
 returns-4 c =
     let b = c .before .before .before in
     let l = b .before .before .before in
     let n = l .before .before .before in
     go (n .numbers .ensures) (l .before .enum-told .given .1)
-    (go (l .record-lengths .ensures) (b .before .enum-told3 .given .1) (go (b .record-bits .ensures) (c .before .enum-told5 .given .1) (c .wiring .ensures)))
+    (go (l .key-lengths .ensures) (b .before .enum-told3 .given .1) (go (b .key-bits .ensures) (c .before .enum-told5 .given .1) (c .wiring .ensures)))
 
-pub encipher-spec : {M : Type 1} → statement M
-encipher-spec =
+pub keystream-spec : {M : Type 1} → statement M
+keystream-spec =
     tie.close
     (tie.spec
     numbers-requires
     enum-told
     enum-told-2
     returns
-    record-lengths-requires
+    key-lengths-requires
     enum-told-3
     enum-told-4
     returns-2
-    record-bits-requires
+    key-bits-requires
     enum-told-5
     enum-told-6
     returns-3

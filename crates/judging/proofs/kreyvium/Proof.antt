@@ -1,11 +1,11 @@
 use mathlib.Core.Path.{sym, _∙_}
 use denote.Ref.{now}
 use Rattle.answer.proofs.Rows.{stop, go}
-use Rattle.cipher.specs.Judging.{encipherAnswer}
-use Rattle.cipher.proofs.Accepted.{no-indices, room-alone}
+use Rattle.judging.specs.Judging.{encipherAnswer}
+use Rattle.judging.proofs.Accepted.{no-indices, room-alone}
 use borrow.Author.Needs.{needs}
-use Rattle.cipher.proofs.judge.kreyvium.Statement.{statement}
-use Rattle.cipher.proofs.judge.kreyvium.Tie as tie
+use Rattle.judging.proofs.kreyvium.Statement.{statement}
+use Rattle.judging.proofs.kreyvium.Tie as tie
 
 numbers-requires : tie.Need-numbers-requires
 numbers-requires c κs = search needs
