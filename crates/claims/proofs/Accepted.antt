@@ -12,6 +12,7 @@ use Rattle.answer.specs.declared.Answer.the-variants.{Done}
 use Rattle.answer.specs.Fronts.{over, left}
 use Rattle.answer.proofs.Over.{take-over, made}
 use Rattle.netlist.specs.Words.{words}
+use Rattle.netlist.specs.Emitted.{Emitted}
 use Rattle.instance.specs.Table.{rowBits, whiteBits}
 use Rattle.instance.specs.Wired.{Wired, Bits, Keyed}
 use Rattle.choice.specs.Choice.{rowOf, Chosen}
@@ -22,7 +23,7 @@ use Rattle.filter.proofs.Tab.{tab-length, tab-at}
 use Rattle.cipher.specs.Cipher.{keystreamOf, encipherOf, Streamed, Ciphered}
 use Rattle.judging.proofs.Accepted.{keystream-accepted, encipher-accepted}
 use Rattle.wiring.specs.Rows.{Inputs}
-use Rattle.emit.specs.Emit.{decipherAnswer, decipherNet, Emitted}
+use Rattle.emit.specs.Emit.{decipherAnswer, decipherNet}
 use Rattle.emit.proofs.Accepted.{decipher-accepted, lent-of}
 use Rattle.path.proofs.Scores.{encipher-inputs}
 

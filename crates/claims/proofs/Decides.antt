@@ -10,6 +10,7 @@ use Rattle.answer.specs.Fronts.{left}
 use Rattle.netlist.specs.Net.{Net, depth, mults}
 use Rattle.netlist.specs.Words.{netOf}
 use Rattle.netlist.specs.Check.{netAnswer}
+use Rattle.netlist.specs.Emitted.{Emitted}
 use Rattle.evaluate.specs.Evaluate.{Evaluated}
 use Rattle.meter.specs.declared.Level.{Level}
 use Rattle.meter.specs.declared.Metered.{Metered}
@@ -38,8 +39,10 @@ use Rattle.line.specs.declared.Asked.{Asked}
 use Rattle.line.specs.Asked.{askedOf}
 use Rattle.text.specs.declared.Printing.{Printing}
 use Rattle.text.specs.Text.{printed, Printed}
+use Rattle.rounds.specs.Gates.{kreyviumNet}
+use Rattle.register.specs.Judging.{kreyviumAnswer}
 use Rattle.emit.specs.declared.Size.{Size}
-use Rattle.emit.specs.Emit.{oneHotAnswer, thresholdAnswer, wiringAnswer, decipherAnswer, decipherNet, sizedBy, Emitted}
+use Rattle.emit.specs.Emit.{oneHotAnswer, thresholdAnswer, wiringAnswer, decipherAnswer, decipherNet, sizedBy}
 
 -- two lists that were left by equal answers
 same-left : {r s : Answer} (front old : List ℕ) {x y : List ℕ} → r ≡ s → x ≡ left r front old → y ≡ left s front old → x ≡ y
@@ -115,6 +118,11 @@ pub emit-decipher-decides : (inst m : ℕ) (idx wh out : List ℕ) {r s : Answer
     → Emitted (decipherAnswer inst m idx wh (length out)) (decipherNet inst m idx wh) out r v
     → Emitted (decipherAnswer inst m idx wh (length out)) (decipherNet inst m idx wh) out s w → (r ≡ s) × (v ≡ w)
 emit-decipher-decides inst m idx wh out x y = emitted-decides out x y
+
+pub emit-kreyvium-decides : (m : ℕ) (iv out : List ℕ) {r s : Answer} {v w : List ℕ}
+    → Emitted (kreyviumAnswer m iv (length out)) (kreyviumNet iv m) out r v → Emitted (kreyviumAnswer m iv (length out)) (kreyviumNet iv m) out s w
+    → (r ≡ s) × (v ≡ w)
+emit-kreyvium-decides m iv out x y = emitted-decides out x y
 
 pub decipher-size-decides : (inst m : ℕ) (idx wh : List ℕ) {r s : Size}
     → r ≡ sizedBy (wiringAnswer inst m idx wh) (decipherNet inst m idx wh) → s ≡ sizedBy (wiringAnswer inst m idx wh) (decipherNet inst m idx wh) → r ≡ s

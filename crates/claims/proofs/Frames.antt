@@ -10,12 +10,13 @@ use Rattle.answer.specs.declared.Answer.the-variants.{Done}
 use Rattle.answer.proofs.Over.{made}
 use Rattle.netlist.specs.Net.{eval}
 use Rattle.netlist.specs.Words.{inputsOf, gatesOf, words}
+use Rattle.netlist.specs.Emitted.{Emitted}
 use Rattle.instance.specs.Table.{sizesOf}
 use Rattle.instance.specs.Wired.{Wired, Bits, Keyed}
 use Rattle.instance.proofs.Accepted.{kreyvium-wired}
 use Rattle.cipher.specs.Cipher.{encipherOf, Ciphered}
 use Rattle.evaluate.specs.Evaluate.{Evaluated}
-use Rattle.emit.specs.Emit.{decipherNet, decipherAnswer, Emitted}
+use Rattle.emit.specs.Emit.{decipherNet, decipherAnswer}
 use Rattle.emit.proofs.Accepted.{lent-of}
 use Rattle.path.proofs.Emission.{emitted-evaluates}
 use Rattle.frames.specs.Bytes.{unpacked, BitList}

@@ -12,6 +12,7 @@ use Rattle.answer.proofs.Rows.{both, refuse-not, told}
 use Rattle.netlist.specs.Net.{Net, depth, mults}
 use Rattle.netlist.specs.Words.{inputsOf, gatesOf, netOf}
 use Rattle.netlist.specs.Sound.{Sound}
+use Rattle.netlist.specs.Emitted.{Emitted}
 use Rattle.netlist.proofs.Accepted.{sound-done}
 use Rattle.netlist.proofs.Words.{netOf-words}
 use Rattle.instance.specs.Wired.{Wired}
@@ -23,7 +24,7 @@ use Rattle.glue.specs.Glue.{gluedWords}
 use Rattle.glue.specs.Parts.{Fit}
 use Rattle.wiring.specs.Costs.{costOf}
 use Rattle.rounds.proofs.Depths.{kreyvium-depth}
-use Rattle.emit.specs.Emit.{decipherNet, decipherAnswer, Emitted}
+use Rattle.emit.specs.Emit.{decipherNet, decipherAnswer}
 use Rattle.emit.proofs.Accepted.{lent-of, net-kreyvium, iv-lent}
 use Rattle.path.proofs.Gluing.{glued-depth, glued-mults, glued-sound}
 use Rattle.path.proofs.Emission.{emitted-sound, emitted-mults, emitted-depth, kreyvium-emitted-mults}

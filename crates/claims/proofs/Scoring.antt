@@ -16,6 +16,7 @@ use Rattle.netlist.specs.Net.{Net, at, run, valAlg, eval}
 use Rattle.netlist.specs.Words.{inputsOf, gatesOf, outputsOf, words, netOf}
 use Rattle.netlist.specs.Check.{gateLimit}
 use Rattle.netlist.specs.Sound.{Sound}
+use Rattle.netlist.specs.Emitted.{Emitted}
 use Rattle.netlist.proofs.Accepted.{sound-done}
 use Rattle.netlist.proofs.Words.{netOf-words, outs-length}
 use Rattle.instance.specs.Table.{keyBits}
@@ -27,7 +28,7 @@ use Rattle.evaluate.specs.Evaluate.{evaluateAnswer, Evaluated}
 use Rattle.evaluate.proofs.Accepted.{ready-done}
 use Rattle.glue.specs.Glue.{gluedSize, gluedWords, GluedAs}
 use Rattle.glue.specs.Parts.{Fit}
-use Rattle.emit.specs.Emit.{decipherNet, decipherAnswer, Emitted}
+use Rattle.emit.specs.Emit.{decipherNet, decipherAnswer}
 use Rattle.emit.specs.Lent.{Lent}
 use Rattle.emit.proofs.Accepted.{lent-of}
 use Rattle.path.specs.Path.{roomsAnswer, scoreAnswer, Scored}

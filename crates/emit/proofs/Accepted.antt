@@ -9,25 +9,29 @@ use lib.ListN.{length}
 use borrow.Author.Tests.{eq-eqb, ne-eqb, eqb-true, eqb-false}
 use Rattle.answer.specs.declared.Answer.{Answer}
 use Rattle.answer.specs.declared.Answer.the-variants.{Done, Refused}
+use Rattle.answer.specs.Fronts.{left}
 use Rattle.answer.proofs.Rows.{both, first-done, then-done, stop, pass}
 use Rattle.answer.proofs.Search.{done-bits}
 use Rattle.netlist.specs.Net.{Net}
 use Rattle.netlist.specs.Words.{words}
+use Rattle.netlist.specs.Emitted.{Emitted}
+use Rattle.netlist.proofs.Puts.{words-length}
 use Rattle.instance.specs.Table.{rowBits, whiteBits}
 use Rattle.instance.specs.Judging.{roomAnswer}
-use Rattle.instance.specs.Wired.{Wired}
+use Rattle.instance.specs.Wired.{Wired, Bits}
 use Rattle.instance.proofs.Judged.{room-done}
 use Rattle.instance.proofs.Accepted.{done-length, done-room, wired-numbers, wired-rows, wired-whitening, done-wired}
 use Rattle.wiring.specs.Exp.{chain}
 use Rattle.wiring.specs.Decipher.{rowsNet}
 use Rattle.rounds.specs.Gates.{kreyviumNet}
 use Rattle.rounds.proofs.Sound.{kreyvium-gates, kreyvium-outs}
+use Rattle.register.specs.Judging.{kreyviumAnswer}
+use Rattle.register.proofs.Accepted.{kreyvium-accepted}
 use Rattle.emit.specs.declared.Size.{Size}
 use Rattle.emit.specs.Emit.{wiringAnswer, decipherAnswer, decipherNet, sizedBy}
 use Rattle.wiring.proofs.Claims.{rows-outs}
 use Rattle.emit.specs.Lent.{Lent}
 use Rattle.emit.specs.Rows.{Wiring}
-use Rattle.emit.proofs.Puts.{words-length}
 
 -- What the rules let a caller lend is accepted, with room for the netlist's words.
 pub wired-accepted : (inst m : ℕ) (idx wh : List ℕ) → Wired inst m idx wh → wiringAnswer inst m idx wh ≡ Done
@@ -117,6 +121,18 @@ wiring-of inst m idx wh l h =
       high = omega (arith, l .most);
       few = l .few;
       rows = record { indices = l .indices; whitening = rows-lent inst m idx wh l h; below = l .below; whiteBit = l .bits };
+    }
+
+-- Kreyvium's writer judges again what was accepted here, so it is done
+pub kreyvium-emitted : (inst m : ℕ) (idx wh out : List ℕ) (r : Answer) (o : List ℕ) → Lent inst m idx wh → inst ≡ 6
+    → length (words (decipherNet inst m idx wh)) ≤ length out → Emitted (kreyviumAnswer m wh (length out)) (kreyviumNet wh m) out r o
+    → Emitted Done (decipherNet inst m idx wh) out r o
+kreyvium-emitted inst m idx wh out r o l e room w =
+    let n = net-kreyvium inst m idx wh e in
+    let iv : Bits 128 wh = record { size = iv-lent inst m idx wh l e; bit = l .bits } in
+    record {
+      answered = w .answered ∙ kreyvium-accepted m wh (length out) (l .some) (l .few) iv (rw n at room);
+      written = w .written ∙ ap (λ (n : Net). left r (words n) out) (sym n);
     }
 
 -- how many gates, outputs and words the netlist has

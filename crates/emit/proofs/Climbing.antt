@@ -8,9 +8,9 @@ use lib.ListN.{length, getD, drop, length-append, drop-of-length-le}
 use lib.Seq.{drop-cons}
 use Rattle.cells.specs.Loop.{pos, down, tail, lowGates, sumGates, cells, firstGates, firstWire}
 use Rattle.emit.specs.declared.levels.Level.{Level}
-use Rattle.emit.specs.Put.{putGates}
+use Rattle.netlist.specs.Put.{putGates}
+use Rattle.netlist.proofs.Puts.{put-append, put-length, more}
 use Rattle.emit.specs.Levels.{levelGates, levelSize, afterLevel, levelsOf, LevelFits, StepFits, firstLevel}
-use Rattle.emit.proofs.Puts.{put-append, put-length, more}
 use Rattle.emit.proofs.Leaves.{pos-le, low-length, tail-length, sum-length, first-length}
 
 level-length : (r : Level) (x : ℕ) → length (levelGates r x) ≡ levelSize r

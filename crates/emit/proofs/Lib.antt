@@ -1,11 +1,5 @@
-pub mod Puts
 pub mod Writes
 pub mod Accepted
-pub mod KreyviumCases
-pub mod KreyviumPlaces
-pub mod KreyviumPuts
-pub mod KreyviumRounds
-pub mod KreyviumWords
 pub mod RowsVariables
 pub mod RowsProduct
 pub mod RowsSum

@@ -8,15 +8,15 @@ use lib.Seq.{sets}
 use Rattle.netlist.specs.declared.gate.Gate.{Gate}
 use Rattle.netlist.specs.declared.gate.Gate.the-variants.{Xor}
 use Rattle.netlist.specs.Part.{Part, past, input, join}
+use Rattle.netlist.specs.Put.{putGates, Wrote}
+use Rattle.netlist.proofs.Puts as puts
 use Rattle.instance.specs.Table.{rowBits}
 use Rattle.wiring.specs.Exp.{wire, sum, emit, chain}
 use Rattle.wiring.specs.Costs.{costOf}
 use Rattle.wiring.specs.Decipher.{nots, vars, filterExp, bitExp, bitPart}
-use Rattle.emit.specs.Put.{putGates, Wrote}
 use Rattle.emit.proofs.RowsFilter.{filter-length}
 use Rattle.emit.proofs.RowsVariables.{Bare}
 use Rattle.emit.proofs.Writes.{wrote-same, wrote-join}
-use Rattle.emit.proofs.Puts as puts
 
 module _ (inst rec next : ℕ) (row ws : List ℕ) (a : 1 ≤ inst) (b : inst ≤ 5) (n : length (vars next row ws) ≡ rowBits inst) where
   abbrev G : List Gate

@@ -9,16 +9,16 @@ use lib.ListN.{length, getD, take, drop, set, length-append, length-set}
 use lib.Seq.{take-suc-set, take-all, getD-drop, getD-take}
 use Rattle.netlist.specs.declared.gate.Gate.{Gate}
 use Rattle.netlist.specs.Part.{Part, past}
+use Rattle.netlist.specs.Put.{putGates, Wrote}
+use Rattle.netlist.proofs.Puts.{put-append, put-length}
 use Rattle.instance.specs.Table.{keyBits, rowBits}
 use Rattle.wiring.specs.Exp.{chain}
 use Rattle.wiring.specs.Costs.{costOf}
 use Rattle.wiring.specs.Decipher.{nots, bitPart, rowAt, partAt, bitsGates, bitsOuts}
 use Rattle.wiring.proofs.Whitening.{vars-length}
 use Rattle.wiring.proofs.Deciphers.{row-length}
-use Rattle.emit.specs.Put.{putGates, Wrote}
 use Rattle.emit.specs.Rows.{Wiring}
 use Rattle.emit.proofs.RowsBit.{part-length, part-last}
-use Rattle.emit.proofs.Puts.{put-append, put-length}
 use Rattle.emit.proofs.RowsVariables.{nots-few}
 use Rattle.emit.proofs.RowsTable.{large}
 use Rattle.emit.proofs.Writes.{wrote-same}

@@ -9,6 +9,7 @@ use lib.Seq.{sets, take-all, getD-drop}
 use lib.ListN.{length, getD, take, drop, length-drop}
 use Rattle.netlist.specs.declared.gate.Gate.the-variants.{Xor}
 use Rattle.netlist.specs.Part.{Part, past, join}
+use Rattle.netlist.specs.Put.{Wrote}
 use Rattle.instance.specs.Table.{rowBits, sizesOf}
 use Rattle.filter.specs.Instances.{degreesOf}
 use Rattle.filter.proofs.Published.{total}
@@ -20,7 +21,6 @@ use Rattle.wiring.proofs.Exps.{All, emit-size, threshold-count}
 use Rattle.wiring.proofs.Products.{chain-splits, monomials-over, monomials-size}
 use Rattle.wiring.proofs.Filters.{filter-over, filter-size}
 use Rattle.wiring.proofs.Table.{known-chain}
-use Rattle.emit.specs.Put.{Wrote}
 use Rattle.emit.proofs.RowsTable.{bit-five}
 use Rattle.emit.proofs.Writes.{wrote-same, wrote-join}
 

@@ -8,6 +8,8 @@ use lib.ListN.{length}
 use lib.Seq.{sets}
 use Rattle.answer.specs.Fronts.{over}
 use Rattle.netlist.specs.Words.{words}
+use Rattle.netlist.specs.Put.{putGates}
+use Rattle.netlist.proofs.Puts.{words-length, net-put}
 use Rattle.instance.specs.Table.{keyBits, rowBits}
 use Rattle.instance.proofs.Judged.{row-small}
 use Rattle.filter.specs.Filter.{ones}
@@ -17,9 +19,7 @@ use Rattle.wiring.specs.Costs.{costOf}
 use Rattle.wiring.specs.Decipher.{bitsGates, bitsOuts, rowsNet}
 use Rattle.wiring.specs.Rows.{Rows}
 use Rattle.wiring.proofs.Claims.{rows-gates, rows-outs}
-use Rattle.emit.specs.Put.{putGates}
 use Rattle.emit.specs.Rows.{Wiring}
-use Rattle.emit.proofs.Puts.{words-length, net-put}
 
 module _ (inst m : ℕ) (idx wh : List ℕ) (W : Wiring inst m idx wh) where
   net-outs : length (rowsNet chain inst idx wh m .outs) ≡ m

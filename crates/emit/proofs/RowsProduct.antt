@@ -8,9 +8,9 @@ use lib.ListN.{length, getD, take, drop, length-append}
 use lib.Seq.{sets, take-take, take-all, getD-drop, getD-take}
 use Rattle.netlist.specs.declared.gate.Gate.the-variants.{And}
 use Rattle.netlist.specs.Part.{Part, past, input, join}
+use Rattle.netlist.specs.Put.{putGates, Wrote}
+use Rattle.netlist.proofs.Puts as puts
 use Rattle.wiring.specs.Exp.{emit, factors, chain, product}
-use Rattle.emit.specs.Put.{putGates, Wrote}
-use Rattle.emit.proofs.Puts as puts
 use Rattle.wiring.proofs.Products.{chain-splits}
 use Rattle.emit.proofs.Writes.{wrote-same}
 

@@ -10,12 +10,12 @@ use lib.ListN.{length, getD, take, drop, length-take, length-drop}
 use lib.Seq.{sets, take-all, take-suc, drop-cons, drop-drop}
 use Rattle.netlist.specs.declared.gate.Gate.the-variants.{And, Xor}
 use Rattle.netlist.specs.Part.{Part, past, input, join}
+use Rattle.netlist.specs.Put.{putGates, Wrote}
 use Rattle.netlist.proofs.Parts.{length-join}
+use Rattle.netlist.proofs.Puts as puts
 use Rattle.filter.proofs.Published.{total}
 use Rattle.wiring.specs.Exp.{Exp, sum, emit, Split, one, two, factors, chain, product, addAll, monomials, fits}
-use Rattle.emit.specs.Put.{putGates, Wrote}
 use Rattle.emit.specs.Rows.{term}
-use Rattle.emit.proofs.Puts as puts
 use Rattle.wiring.proofs.Products.{chain-splits, Fits, fits-cons}
 use Rattle.emit.proofs.Writes.{wrote-same}
 

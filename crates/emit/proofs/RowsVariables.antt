@@ -9,10 +9,10 @@ use lib.Seq.{sets, length-sets, drop-cons, take-suc-set, take-all}
 use Rattle.netlist.specs.declared.gate.Gate.{Gate}
 use Rattle.netlist.specs.declared.gate.Gate.the-variants.{Not}
 use Rattle.netlist.specs.Gates.{gateWords}
+use Rattle.netlist.specs.Put.{putGates}
+use Rattle.netlist.proofs.Puts.{Awaits, put-over}
 use Rattle.wiring.specs.Decipher.{nots, vars}
-use Rattle.emit.specs.Put.{putGates}
 use Rattle.emit.specs.Rows.{wireOf, flips}
-use Rattle.emit.proofs.Puts.{Awaits, put-over}
 
 nots-one : (p w : ℕ) (ps ws : List ℕ) → nots (p ∷ ps) (w ∷ ws) ≡ nots (p ∷ []) (w ∷ []) ++ nots ps ws
 unfolding nots

@@ -30,9 +30,10 @@ use Rattle.instance.proofs.Judged.{room-done}
 use Rattle.cells.specs.Cells.{oneHotNet, thresholdPart, thresholdNet, allGates, lastLevel, firstLevel, firstGates, levelsGates, levelsEnd}
 use Rattle.cells.specs.Loop.{cells}
 use Rattle.cells.proofs.Same.{threshold-part-loop, threshold-net-loop, threshold-net-zero, one-hot-loop}
-use Rattle.emit.specs.Put.{putGates, Wrote}
-use Rattle.emit.specs.Emit.{noThreshold, Emitted}
-use Rattle.emit.proofs.Puts.{put-one, words-length}
+use Rattle.netlist.specs.Emitted.{Emitted}
+use Rattle.netlist.specs.Put.{putGates, Wrote}
+use Rattle.netlist.proofs.Puts.{put-one, words-length}
+use Rattle.emit.specs.Emit.{noThreshold}
 use Rattle.emit.proofs.Climbing.{cells-length}
 
 -- a gate alone

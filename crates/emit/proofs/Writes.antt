@@ -7,8 +7,8 @@ use lib.Seq.{sets}
 use Rattle.netlist.specs.declared.gate.Gate.{Gate}
 use Rattle.netlist.specs.Gates.{gateWords}
 use Rattle.netlist.specs.Part.{Part, past, join}
-use Rattle.emit.specs.Put.{putGates, Wrote}
-use Rattle.emit.proofs.Puts as puts
+use Rattle.netlist.specs.Put.{putGates, Wrote}
+use Rattle.netlist.proofs.Puts as puts
 
 pub wrote-same : {p q : Part} (out o : List ℕ) (at r : ℕ) → p ≡ q → Wrote out at p o r → Wrote out at q o r
 wrote-same out o at r e w = record { gates = w .gates ∙ ap (λ (z : Part). putGates out at (z .gates)) e; wire = w .wire ∙ ap (λ (z : Part). z .out) e }

@@ -1,6 +1,5 @@
--- What the calls of emission answer and leave. docs/RULES.md, "What is emitted" and "Answer numbers".
+-- What the calls of emission answer. docs/RULES.md, "What is emitted" and "Answer numbers".
 use Prim.Native.Nat.{ℕ, _+_, _*_}
-use mathlib.Core.Path.{_≡_}
 use mathlib.Core.Bool.{Bool, true}
 use mathlib.Core.List.{List}
 use lib.ListN.{length}
@@ -10,7 +9,6 @@ use Rattle.answer.specs.declared.Answer.the-variants.{Done, Refused}
 use Rattle.answer.specs.Answers.{_▹_, refuse}
 use Rattle.answer.specs.Bits.{bitsAnswer}
 use Rattle.answer.specs.Choose.{choose}
-use Rattle.answer.specs.Fronts.{left}
 use Rattle.netlist.specs.Net.{Net}
 use Rattle.netlist.specs.Words.{words}
 use Rattle.instance.specs.Table.{keyBits, rowBits, whiteBits}
@@ -53,8 +51,3 @@ decipherAnswer inst m idx wh room =
 unfoldable pub sizedBy : Answer → Net → Size
 sizedBy Done net = record { answer = Done; gates = length (net .gates); words = length (words net) }
 sizedBy (Refused number list place) net = record { answer = Refused number list place; gates = 0; words = 0 }
-
--- a call that was due this answer, of this netlist: what it answered and what it left in the result
-pub record Emitted (due : Answer) (net : Net) (out : List ℕ) (r : Answer) (out′ : List ℕ) : Type 0 where
-  pub answered : r ≡ due
-  pub written : out′ ≡ left r (words net) out

@@ -5,9 +5,9 @@ ghost use mathlib.Core.Path.{_≡_};
 ghost use Prim.Native.Nat.{_+_, _-_, _*_, _≤_, _<_};
 ghost use lib.ListN.{length, getD};
 ghost use Rattle.netlist.specs.Glue.{upFrom};
+ghost use Rattle.netlist.specs.Put.{putGates, Wrote};
 ghost use Rattle.cells.specs.Cells.{thresholdPart};
 ghost use Rattle.cells.specs.Loop.{pos, down, tail, lowGates, sumGates, firstGates, firstWire, cells};
-ghost use Rattle.emit.specs.Put.{putGates, Wrote};
 ghost use Rattle.emit.specs.Levels.{levelGates, afterLevel, firstLevel, LevelFits, StepFits};
 
 // Where a run of levels stands. Cell 0 is kept at `lows` more levels. The last AND of a level is a cell at
@@ -44,8 +44,8 @@ fn put_low(out: &mut [u32], at: usize, lows: u32, x: u32, first: u32, next: u32)
     ensures { λ _. ⌜ now (out .exit) ≡ putGates (now (out .entry)) at (lowGates lows x first next) ⌝ }
 {
     if 0 < lows {
-        put_gate(out, at, crate::put::NOT, x, 0, 0);
-        put_gate(out, at + 4, crate::put::AND, first, next, 0);
+        put_gate(out, at, netlist::gate::NOT_KIND, x, 0, 0);
+        put_gate(out, at + 4, netlist::gate::AND_KIND, first, next, 0);
     }
 }
 
@@ -59,13 +59,13 @@ fn put_tail(out: &mut [u32], at: usize, x: u32, first: u32, second: u32, more: u
     let mut cell = second;
     let mut left = more;
     while 0 < left {
-        put_gate(out, i, crate::put::MUX, x, cell, before);
+        put_gate(out, i, netlist::gate::MUX_KIND, x, cell, before);
         i += 4;
         before = cell;
         cell += 1;
         left -= 1;
     }
-    put_gate(out, i, crate::put::AND, before, x, 0);
+    put_gate(out, i, netlist::gate::AND_KIND, before, x, 0);
 }
 
 // Above level d: XOR of the last AND and the previous sum.
@@ -74,7 +74,7 @@ fn put_sum(out: &mut [u32], at: usize, highs: u32, last: u32, sum: u32)
     ensures { λ _. ⌜ now (out .exit) ≡ putGates (now (out .entry)) at (sumGates highs last sum) ⌝ }
 {
     if highs == 0 {
-        put_gate(out, at, crate::put::XOR, last, sum, 0);
+        put_gate(out, at, netlist::gate::XOR_KIND, last, sum, 0);
     }
 }
 
@@ -153,7 +153,7 @@ fn put_first(out: &mut [u32], at: usize, lows: u32, x: u32)
     ensures { λ _. ⌜ now (out .exit) ≡ putGates (now (out .entry)) at (firstGates lows x) ⌝ }
 {
     if 0 < lows {
-        put_gate(out, at, crate::put::NOT, x, 0, 0);
+        put_gate(out, at, netlist::gate::NOT_KIND, x, 0, 0);
     }
 }
 

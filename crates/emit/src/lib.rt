@@ -3,17 +3,17 @@ mod judge;
 mod levels;
 mod nets;
 mod put;
-mod register;
 mod rows;
 
 use answer::Answer;
 ghost use mathlib.Core.Path.{_≡_};
 ghost use Prim.Native.Nat.{_≤_};
 ghost use lib.ListN.{length};
-ghost use Rattle.answer.specs.Fronts.{over};
+ghost use Rattle.answer.specs.declared.Answer.the-variants.{Done};
 ghost use Rattle.cells.specs.Cells.{oneHotNet, thresholdNet};
 ghost use Rattle.netlist.specs.Words.{words};
-ghost use Rattle.emit.specs.Emit.{oneHotAnswer, thresholdAnswer, decipherNet, wiringAnswer, decipherAnswer, sizedBy, Emitted};
+ghost use Rattle.netlist.specs.Emitted.{Emitted};
+ghost use Rattle.emit.specs.Emit.{oneHotAnswer, thresholdAnswer, decipherNet, wiringAnswer, decipherAnswer, sizedBy};
 ghost use Rattle.emit.specs.Lent.{Lent};
 
 // How many gates and words a netlist has, where the call that says so is done.
@@ -85,17 +85,23 @@ pub fn decipher_size(instance: u32, m: u32, indices: &[u32], whitening: &[u8]) -
     }
 }
 
-// That netlist, where there is room for it.
-fn put_decipher(instance: u32, m: u32, indices: &[u32], whitening: &[u8], result: &mut [u32])
+// That netlist, where there is room for it. Done is the answer.
+fn put_decipher(
+    instance: u32,
+    m: u32,
+    indices: &[u32],
+    whitening: &[u8],
+    result: &mut [u32],
+) -> Answer
     requires { ⌜ Lent instance m (now indices) (now whitening) ⌝ }
     requires { ⌜ length (words (decipherNet instance m (now indices) (now whitening))) ≤ length (now result) ⌝ }
-    ensures { λ _. ⌜ now (result .exit) ≡ over (words (decipherNet instance m (now (indices .entry)) (now (whitening .entry)))) (now (result .entry)) ⌝ }
+    ensures { λ r. ⌜ Emitted Done (decipherNet instance m (now (indices .entry)) (now (whitening .entry))) (now (result .entry)) r (now (result .exit)) ⌝ }
 {
     if instance == 6 {
-        register::put_kreyvium(result, whitening, m);
-    } else {
-        rows::put_rows_net(result, instance, m, indices, whitening);
+        return register::emit_kreyvium(m, whitening, result);
     }
+    rows::put_rows_net(result, instance, m, indices, whitening);
+    Answer::Done
 }
 
 // The deciphering netlist of an instance for a record of m bits. whitening is the IV for Kreyvium.
@@ -117,6 +123,5 @@ pub fn emit_decipher(
     let Answer::Done = s else {
         return s;
     };
-    put_decipher(instance, m, indices, whitening, result);
-    Answer::Done
+    put_decipher(instance, m, indices, whitening, result)
 }

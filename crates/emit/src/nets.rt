@@ -13,8 +13,9 @@ ghost use lib.Seq.{sets};
 ghost use Rattle.netlist.specs.Glue.{upFrom};
 ghost use Rattle.cells.specs.Cells.{oneHotNet, thresholdNet};
 ghost use Rattle.cells.specs.Loop.{cells};
-ghost use Rattle.emit.specs.Put.{putGates};
-ghost use Rattle.emit.specs.Emit.{oneHotAnswer, thresholdAnswer, noThreshold, Emitted};
+ghost use Rattle.netlist.specs.Emitted.{Emitted};
+ghost use Rattle.netlist.specs.Put.{putGates};
+ghost use Rattle.emit.specs.Emit.{oneHotAnswer, thresholdAnswer, noThreshold};
 
 // n wires in order from wire `from` on, stored from word at on.
 fn put_wires(out: &mut [u32], at: usize, from: u32, n: u32)
@@ -60,7 +61,7 @@ fn put_one_hot_gates(out: &mut [u32], n: u32, wires: &mut [u32])
     ensures { λ _. ⌜ now (out .exit) ≡ putGates (now (out .entry)) 3 (oneHotNet n .gates) ⌝ }
 {
     if n == 0 {
-        put_gate(out, 3, crate::put::ONE, 0, 0, 0);
+        put_gate(out, 3, netlist::gate::ONE_KIND, 0, 0, 0);
         return;
     }
     put_input_cells(out, n, n, n + 1, wires);
@@ -127,7 +128,7 @@ fn put_threshold_gates(out: &mut [u32], d: u32, n: u32, wires: &mut [u32])
     ensures { λ _. ⌜ now (out .exit) ≡ putGates (now (out .entry)) 3 (thresholdNet d n .gates) ⌝ }
 {
     if n < d {
-        put_gate(out, 3, crate::put::ZERO, 0, 0, 0);
+        put_gate(out, 3, netlist::gate::ZERO_KIND, 0, 0, 0);
         return;
     }
     put_input_cells(out, n, n - d, d, wires);

@@ -5,19 +5,6 @@ ghost use Prim.Native.Nat.{_+_, _≤_};
 ghost use lib.ListN.{length};
 ghost use lib.Seq.{sets};
 
-// Kinds of gates. docs/RULES.md, "Netlists".
-pub(crate) const ZERO: u32 = 0;
-
-pub(crate) const ONE: u32 = 1;
-
-pub(crate) const NOT: u32 = 2;
-
-pub(crate) const XOR: u32 = 3;
-
-pub(crate) const AND: u32 = 4;
-
-pub(crate) const MUX: u32 = 5;
-
 // The counts of inputs, gates and outputs.
 pub(crate) fn put_header(out: &mut [u32], inputs: u32, gates: u32, outputs: u32)
     requires { ⌜ 3 ≤ length (now out) ⌝ }

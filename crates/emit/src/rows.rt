@@ -1,12 +1,12 @@
 // The deciphering netlists of instances 1 to 5: docs/RULES.md, "What is emitted". Each bit has its NOTs, its
 // filter, and the XOR with its record bit. Room is the caller's to see to.
 use crate::levels::put_threshold;
-use crate::put::AND;
-use crate::put::NOT;
-use crate::put::XOR;
 use crate::put::put_gate;
 use crate::put::put_header;
 use crate::put::put_words;
+use netlist::gate::AND_KIND;
+use netlist::gate::NOT_KIND;
+use netlist::gate::XOR_KIND;
 ghost use mathlib.Core.Path.{_≡_};
 ghost use mathlib.Core.Bool.{true};
 ghost use mathlib.Core.List.{List, [], _∷_, _++_};
@@ -18,6 +18,7 @@ ghost use Rattle.netlist.specs.Words.{words};
 ghost use Rattle.netlist.specs.declared.gate.Gate.{Gate};
 ghost use Rattle.netlist.specs.declared.gate.Gate.the-variants.{Not};
 ghost use Rattle.netlist.specs.Gates.{gateWords};
+ghost use Rattle.netlist.specs.Put.{putGates, Wrote};
 ghost use Rattle.wiring.specs.Exp.{wire, sum, emit, product, chain, monomials, fits};
 ghost use Rattle.wiring.specs.Costs.{costOf};
 ghost use Rattle.wiring.specs.Decipher.{nots, vars, filterExp, bitPart, bitsGates, bitsOuts, rowsNet};
@@ -25,7 +26,6 @@ ghost use Rattle.instance.specs.Table.{keyBits, rowBits};
 ghost use Rattle.filter.specs.Filter.{ones};
 ghost use Rattle.filter.specs.Instances.{degreesOf};
 ghost use Rattle.wiring.specs.Rows.{Rows};
-ghost use Rattle.emit.specs.Put.{putGates, Wrote};
 ghost use Rattle.emit.specs.Rows.{wireOf, flips, term, Wiring};
 
 // A NOT of wire p, and whether it counts: where whitening w asks for one. One that does not count is stored all the
@@ -35,7 +35,7 @@ fn put_not(out: &mut [u32], at: usize, p: u32, w: u8) -> u32
     ensures { λ r. ⌜ (r ≡ flips w) × (r ≤ 1) ⌝ }
     ensures { λ _. ⌜ now (out .exit) ≡ sets (now (out .entry)) at (gateWords (Not p)) ⌝ }
 {
-    put_gate(out, at, NOT, p, 0, 0);
+    put_gate(out, at, NOT_KIND, p, 0, 0);
     if w == 0 { 0 } else { 1 }
 }
 
@@ -80,7 +80,7 @@ fn put_chain(out: &mut [u32], at: usize, next: u32, ws: &[u32]) -> u32
     let mut wire = next;
     let mut j: usize = 1;
     while j < ws.len() {
-        put_gate(out, i, AND, acc, ws[j], 0);
+        put_gate(out, i, AND_KIND, acc, ws[j], 0);
         acc = wire;
         i += 4;
         wire += 1;
@@ -97,7 +97,7 @@ fn put_term(out: &mut [u32], at: usize, next: u32, acc: u32, ws: &[u32]) -> u32
     let k = ws.len();
     let w = put_chain(out, at, next, ws);
     let i = at + 4 * (k - 1);
-    put_gate(out, i, XOR, acc, w, 0);
+    put_gate(out, i, XOR_KIND, acc, w, 0);
     next + ((k - 1) as u32)
 }
 
@@ -155,7 +155,7 @@ fn put_filter(out: &mut [u32], at: usize, next: u32, instance: u32, xs: &[u32]) 
         return s;
     }
     let t = put_threshold(out, at + 320, next + 80, 32, &xs[81..]);
-    put_gate(out, at + 4780, XOR, s, t, 0);
+    put_gate(out, at + 4780, XOR_KIND, s, t, 0);
     next + 1195
 }
 
@@ -177,7 +177,7 @@ fn put_filtered(out: &mut [u32], at: usize, instance: u32, rec: u32, next: u32, 
 {
     let k = bit_gates(instance);
     let f = put_filter(out, at, next, instance, xs);
-    put_gate(out, at + 4 * (k - 1), XOR, f, rec, 0);
+    put_gate(out, at + 4 * (k - 1), XOR_KIND, f, rec, 0);
     next + ((k - 1) as u32)
 }
 

@@ -12,6 +12,7 @@ use Rattle.answer.proofs.Over.{over-none, over-sets, take-over, over-at, length
 use Rattle.netlist.specs.Net.{Net, values, eval}
 use Rattle.netlist.specs.Words.{gatesWords, words, netOf}
 use Rattle.netlist.specs.Glue.{glue}
+use Rattle.netlist.specs.Emitted.{Emitted}
 use Rattle.netlist.proofs.Words.{gatesWords-length}
 use Rattle.instance.specs.Table.{keyBits}
 use Rattle.cipher.specs.Cipher.{encipherOf, Ciphered}
@@ -21,7 +22,7 @@ use Rattle.evaluate.specs.Ready.{Ready}
 use Rattle.evaluate.proofs.Accepted.{ready-done}
 use Rattle.glue.specs.Glue.{gluedWords}
 use Rattle.glue.specs.Parts.{Fit}
-use Rattle.emit.specs.Emit.{decipherNet, decipherAnswer, Emitted}
+use Rattle.emit.specs.Emit.{decipherNet, decipherAnswer}
 use Rattle.emit.specs.Lent.{Lent}
 use Rattle.path.specs.Path.{decipherWords, scoreWords, scoreInputs, scoreAnswer, roomsOf, Scored}
 use Rattle.path.specs.Steps.{sizeOf, front}

@@ -15,8 +15,8 @@ use Rattle.glue.specs.Glue.{GluedAs}
 use Rattle.choice.specs.Choice.{Chosen}
 use Rattle.cipher.specs.Cipher.{Streamed, Ciphered}
 use Rattle.netlist.specs.Net.{Net}
+use Rattle.netlist.specs.Emitted.{Emitted}
 use Rattle.emit.specs.declared.Size.{Size}
-use Rattle.emit.specs.Emit.{Emitted}
 use Rattle.path.specs.Path.{Scored}
 use Rattle.file.specs.declared.form.Form.the-variants.{Full}
 use Rattle.file.specs.File.{ReadAs, WrittenAs}

@@ -15,11 +15,12 @@ use Rattle.answer.proofs.Rows.{first-done, refuse-done, refuse-not, both, untol
 use Rattle.answer.proofs.Over.{kept, made, over-at, take-over}
 use Rattle.netlist.specs.Net.{depth, mults}
 use Rattle.netlist.specs.Words.{inputsOf, gatesOf, words}
+use Rattle.netlist.specs.Emitted.{Emitted}
+use Rattle.netlist.proofs.Puts.{words-length}
 use Rattle.instance.specs.Judging.{roomAnswer}
 use Rattle.cells.specs.Cells.{thresholdNet}
 use Rattle.cells.proofs.Facts.{threshold-outputs}
-use Rattle.emit.specs.Emit.{noThreshold, thresholdAnswer, Emitted}
-use Rattle.emit.proofs.Puts.{words-length}
+use Rattle.emit.specs.Emit.{noThreshold, thresholdAnswer}
 use Rattle.line.specs.declared.Asked.{Asked}
 use Rattle.line.specs.declared.Asked.the-variants.{Line, Nothing}
 use Rattle.line.specs.Asked.{askedOf}

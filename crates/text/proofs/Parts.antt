@@ -8,7 +8,7 @@ use native.Mathlib.Nat.{zero-add}
 use lib.ListN.{length, getD, set, drop, length-append}
 use lib.Seq.{sets, length-sets, drop-cons, sets-eq}
 use Rattle.answer.specs.Fronts.{over}
-use Rattle.emit.proofs.Puts.{sets-append}
+use Rattle.netlist.proofs.Puts.{sets-append}
 use Rattle.text.specs.Puts.{Room, Wrote, Left}
 
 -- nothing changes the length

@@ -10,12 +10,12 @@ use lib.ListN.{length, replicate, length-replicate}
 use lib.Seq.{getD-at}
 use Rattle.netlist.specs.Net.{depth, mults}
 use Rattle.netlist.specs.Words.{words}
+use Rattle.netlist.proofs.Puts.{words-length}
 use Rattle.cells.specs.Cells.{thresholdNet}
 use Rattle.cells.proofs.Same.{threshold-net-zero}
 use Rattle.cells.proofs.Facts.{threshold-depth, threshold-mults, threshold-gates-64, threshold-outputs}
 use Rattle.emit.specs.Emit.{noThreshold}
 use Rattle.emit.proofs.Shapes.{shape-good}
-use Rattle.emit.proofs.Puts.{words-length}
 
 module _ (d n : ℕ) (ok : noThreshold d n ≡ false) where
   pub depth-none : n < d → 0 ≡ depth (thresholdNet d n)

@@ -1,8 +1,8 @@
-use mathlib.Core.Path.{_≡_, refl, sym, ap, _∙_}
+use mathlib.Core.Path.{_≡_, sym, ap, _∙_}
 use denote.Ref.{now}
 use lib.ListN.{length}
 use Rattle.answer.specs.declared.Answer.the-variants.{Done}
-use Rattle.answer.proofs.Over.{kept, made}
+use Rattle.answer.proofs.Over.{kept}
 use Rattle.netlist.specs.Words.{words}
 use Rattle.instance.specs.Judging.{roomAnswer}
 use Rattle.instance.proofs.Judged.{room-done}
@@ -74,9 +74,10 @@ returns-3 c =
     let k = c .before .before in
     let t = k .before .before in
     let r = t .before .before in
+    let w = k .put-decipher .ensures in
     record {
-      answered = sym (t .enum-told3 .given .1) ∙ judged _ _ _ _ _ (accepted (r .before)) (due r);
-      written = k .put-decipher .ensures ∙ made _ _ refl;
+      answered = w .answered ∙ sym (t .enum-told3 .given .1) ∙ judged _ _ _ _ _ (accepted (r .before)) (due r);
+      written = w .written;
     }
 
 pub emit-decipher-spec : {M : Type 1} → statement M

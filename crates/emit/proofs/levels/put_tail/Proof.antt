@@ -3,7 +3,7 @@ use mathlib.Core.Path.{_≡_, refl, _∙_}
 use native.Mathlib.Omega.{arith}
 use lib.ListN.{length}
 use Rattle.cells.specs.Loop.{tail}
-use Rattle.emit.specs.Put.{putGates}
+use Rattle.netlist.specs.Put.{putGates}
 use Rattle.emit.proofs.Leaves.{tail-turn, tail-end}
 use Rattle.emit.proofs.levels.put_tail.Statement.{statement}
 use Rattle.emit.proofs.levels.put_tail.Tie as tie

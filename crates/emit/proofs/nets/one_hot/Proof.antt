@@ -7,9 +7,9 @@ use borrow.Author.Tests.{le-ltb}
 use lib.Dec.{ltb}
 use lib.ListN.{length}
 use Rattle.netlist.specs.Words.{words}
+use Rattle.netlist.proofs.Puts.{words-length, net-put}
 use Rattle.cells.specs.Cells.{oneHotNet}
 use Rattle.emit.specs.Emit.{oneHotAnswer}
-use Rattle.emit.proofs.Puts.{words-length, net-put}
 use Rattle.emit.proofs.Shapes.{hot-inputs, hot-count, no-room, in-room, all-written}
 use Rattle.emit.proofs.nets.one_hot.Statement.{statement}
 use Rattle.emit.proofs.nets.one_hot.Tie as tie

@@ -4,7 +4,7 @@ use native.Mathlib.Omega.{arith}
 use denote.Ref.{now}
 use lib.ListN.{length}
 use Rattle.netlist.specs.declared.gate.Gate.the-variants.{One}
-use Rattle.emit.specs.Put.{putGates}
+use Rattle.netlist.specs.Put.{putGates}
 use Rattle.emit.proofs.Shapes.{alone, hot-none, hot-cells}
 use Rattle.emit.proofs.nets.put_one_hot_gates.Statement.{statement}
 use Rattle.emit.proofs.nets.put_one_hot_gates.Tie as tie

@@ -6,9 +6,9 @@ use denote.Ref.{now}
 use lib.ListN.{length}
 use lib.Seq.{sets}
 use Rattle.netlist.specs.Words.{words}
+use Rattle.netlist.proofs.Puts.{words-length, net-put}
 use Rattle.cells.specs.Cells.{thresholdNet}
 use Rattle.emit.specs.Emit.{noThreshold, thresholdAnswer}
-use Rattle.emit.proofs.Puts.{words-length, net-put}
 use Rattle.emit.proofs.Shapes.{threshold-inputs, threshold-count, threshold-outs, threshold-some, shape-good, no-room, in-room, all-written}
 use Rattle.emit.proofs.nets.threshold.Statement.{statement}
 use Rattle.emit.proofs.nets.threshold.Tie as tie

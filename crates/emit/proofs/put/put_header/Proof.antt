@@ -3,8 +3,6 @@ use lib.ListN.{length-set}
 use borrow.Author.Needs.{needs}
 use Rattle.emit.proofs.put.put_header.Statement.{statement}
 use Rattle.emit.proofs.put.put_header.Tie as tie
-use Rattle.emit.proofs.put.put_header.Reads as reads
-use Rattle.emit.proofs.put.put_header.Lts as lts
 
 slice-write-out : tie.Need-slice-write-out
 slice-write-out c = search needs

@@ -4,11 +4,9 @@ use native.Mathlib.Omega.{arith}
 use lib.ListN.{length, drop}
 use lib.ListN.{length-set}
 use lib.Seq.{sets}
-use Rattle.emit.proofs.Puts.{copy-turn, copy-end}
+use Rattle.netlist.proofs.Puts.{copy-turn, copy-end}
 use Rattle.emit.proofs.put.put_words.Statement.{statement}
 use Rattle.emit.proofs.put.put_words.Tie as tie
-use Rattle.emit.proofs.put.put_words.Reads as reads
-use Rattle.emit.proofs.put.put_words.Lts as lts
 
 abbrev Inv-loop : tie.InvT-loop
 Inv-loop out₀ at words i₀ j₀ out i j = (sets out i (drop j words) ≡ sets out₀ at words) × (length out ≡ length out₀) × (i ≡ at + j) × (j ≤ length words)

@@ -3,7 +3,7 @@ use Prim.Native.Nat.{_+_, _-_, _≤_}
 use native.Mathlib.Omega.{arith}
 use lib.ListN.{length, drop, length-set}
 use lib.Seq.{sets}
-use Rattle.emit.proofs.Puts.{copy-turn, copy-end}
+use Rattle.netlist.proofs.Puts.{copy-turn, copy-end}
 use Rattle.path.proofs.write.put_bytes.Statement.{statement}
 use Rattle.path.proofs.write.put_bytes.Tie as tie
 

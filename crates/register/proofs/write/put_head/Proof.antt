@@ -1,0 +1,49 @@
+use Rattle.register.proofs.Few.{four}
+use borrow.Author.Needs.{needs}
+use Rattle.register.proofs.write.put_head.Statement.{statement}
+use Rattle.register.proofs.write.put_head.Tie as tie
+
+put-gate-requires : tie.Need-put-gate-requires
+put-gate-requires c κs = search needs
+
+add-put-gate : tie.Need-add-put-gate
+add-put-gate c = search needs
+
+put-gate-requires-2 : tie.Need-put-gate-requires-2
+put-gate-requires-2 c κs = search needs
+
+add-put-gate-2 : tie.Need-add-put-gate-2
+add-put-gate-2 c = search needs
+
+put-gate-requires-3 : tie.Need-put-gate-requires-3
+put-gate-requires-3 c κs = search needs
+
+add-put-gate-3 : tie.Need-add-put-gate-3
+add-put-gate-3 c = search needs
+
+add-put-gate-4 : tie.Need-add-put-gate-4
+add-put-gate-4 c = search needs
+
+put-gate-requires-4 : tie.Need-put-gate-requires-4
+put-gate-requires-4 c κs = search needs
+
+same-length : tie.Need-same-length
+same-length c = search needs
+
+returns : tie.Need-returns
+returns c = four _ _ _ _ _ _ _ _ (c .before .before .before .before .before .before .before .before .before .before .before .before .before .before .put-gate .ensures) (c .before .before .before .before .before .before .before .before .before .before .put-gate2 .ensures) (c .before .before .before .before .before .before .put-gate3 .ensures) _ _ (c .before .before .put-gate4 .ensures)
+
+pub put-head-spec : {M : Type 1} → statement M
+put-head-spec =
+    tie.close
+    (tie.spec
+    put-gate-requires
+    add-put-gate
+    put-gate-requires-2
+    add-put-gate-2
+    put-gate-requires-3
+    add-put-gate-3
+    add-put-gate-4
+    put-gate-requires-4
+    same-length
+    returns)

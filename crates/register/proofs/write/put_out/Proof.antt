@@ -1,0 +1,57 @@
+use Rattle.register.proofs.Few.{three}
+use borrow.Author.Needs.{needs}
+use Rattle.register.proofs.write.put_out.Statement.{statement}
+use Rattle.register.proofs.write.put_out.Tie as tie
+
+add-put-gate : tie.Need-add-put-gate
+add-put-gate c = search needs
+
+put-gate-requires : tie.Need-put-gate-requires
+put-gate-requires c κs = search needs
+
+add-put-gate-2 : tie.Need-add-put-gate-2
+add-put-gate-2 c = search needs
+
+add-put-gate-3 : tie.Need-add-put-gate-3
+add-put-gate-3 c = search needs
+
+add-put-gate-4 : tie.Need-add-put-gate-4
+add-put-gate-4 c = search needs
+
+put-gate-requires-2 : tie.Need-put-gate-requires-2
+put-gate-requires-2 c κs = search needs
+
+add-put-gate-5 : tie.Need-add-put-gate-5
+add-put-gate-5 c = search needs
+
+add-put-gate-6 : tie.Need-add-put-gate-6
+add-put-gate-6 c = search needs
+
+add-put-gate-7 : tie.Need-add-put-gate-7
+add-put-gate-7 c = search needs
+
+put-gate-requires-3 : tie.Need-put-gate-requires-3
+put-gate-requires-3 c κs = search needs
+
+same-length : tie.Need-same-length
+same-length c = search needs
+
+returns : tie.Need-returns
+returns c = three _ _ _ _ _ _ _ _ (c .before .before .before .before .before .before .before .before .before .before .put-gate .ensures) (c .before .before .before .before .before .before .put-gate2 .ensures) (c .before .before .put-gate3 .ensures)
+
+pub put-out-spec : {M : Type 1} → statement M
+put-out-spec =
+    tie.close
+    (tie.spec
+    add-put-gate
+    put-gate-requires
+    add-put-gate-2
+    add-put-gate-3
+    add-put-gate-4
+    put-gate-requires-2
+    add-put-gate-5
+    add-put-gate-6
+    add-put-gate-7
+    put-gate-requires-3
+    same-length
+    returns)
