@@ -22,11 +22,11 @@ use Rattle.kreyvium.specs.declared.State.{State}
 use Rattle.kreyvium.specs.Kreyvium.{Registers, outOf, rounds, stream, streamOf}
 use Rattle.kreyvium.specs.Words.{tops, stateOf}
 use Rattle.kreyvium.proofs.Bits.{tops-decide}
-use Rattle.frames.specs.declared.port.Port.{Port}
-use Rattle.frames.specs.declared.port.Made.{Made}
-use Rattle.frames.specs.declared.port.Found.{Found}
+use Rattle.port.specs.declared.Port.{Port}
+use Rattle.port.specs.declared.Made.{Made}
+use Rattle.port.specs.declared.Found.{Found}
+use Rattle.port.specs.Layout.{portOf, portMade, fieldsAnswer, foundBy, BitsWritten}
 use Rattle.frames.specs.Frames.{fileAnswer, Appended, AppendedAfter, FramesRead}
-use Rattle.frames.specs.Layout.{portOf, portMade, fieldsAnswer, foundBy, BitsWritten}
 use Rattle.collector.specs.Collector.{AppendedPacked, AppendedAfterPacked, ReadPacked}
 use Rattle.daemon.specs.Packed.{packedOf}
 use Rattle.daemon.specs.Daemon.{Enciphered}

@@ -18,7 +18,7 @@ use Rattle.evaluate.specs.Evaluate.{Evaluated}
 use Rattle.emit.specs.Emit.{decipherNet, decipherAnswer, Emitted}
 use Rattle.emit.proofs.Accepted.{lent-of}
 use Rattle.path.proofs.Emission.{emitted-evaluates}
-use Rattle.frames.specs.Bytes.{unpacked, BitList}
+use Rattle.port.specs.Bytes.{unpacked, BitList}
 use Rattle.frames.specs.Frames.{start, recordIn, Appended}
 use Rattle.frames.specs.Lent.{AppendLent}
 use Rattle.frames.proofs.Judged.{lent-append}

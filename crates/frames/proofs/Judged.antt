@@ -20,10 +20,10 @@ use Rattle.filter.proofs.Tab.{tab-at}
 use Rattle.instance.specs.Judging.{lengthAnswer, roomAnswer}
 use Rattle.instance.proofs.Judged.{length-done, room-done}
 use Rattle.instance.proofs.Accepted.{done-length, done-room}
-use Rattle.frames.specs.Bytes.{digits, packed, BitList}
+use Rattle.port.specs.Bytes.{digits, packed, BitList}
 use Rattle.frames.specs.Frames.{byteP, byteT, frameSize, start, framesIn, begins, ivNumber, ivValue, rises, above, frameAnswer, fileAnswer, newAnswer, lengthsAnswer, threeBitsAnswer, endAnswer, appendAnswer, lastAnswer, appendAfterAnswer, readAnswer}
 use Rattle.frames.specs.Lent.{Whole, AppendLent, ReadLent}
-use Rattle.frames.proofs.Digits.{digits-split}
+use Rattle.port.proofs.Digits.{digits-split}
 
 -- ---- the mark of a frame
 

@@ -12,8 +12,8 @@ use Rattle.filter.specs.Filter.{tab}
 use Rattle.filter.proofs.Tab.{tab-same}
 use Rattle.kreyvium.specs.Words.{bit, tops}
 use Rattle.kreyvium.proofs.Bits.{length-tops, tops-at, bit-xor}
-use Rattle.frames.specs.Bytes.{digits, unpacked}
-use Rattle.frames.proofs.Digits.{binary-bit, byte-bit, digits-field}
+use Rattle.port.specs.Bytes.{digits, unpacked}
+use Rattle.port.proofs.Digits.{binary-bit, byte-bit, digits-field}
 
 -- a word's bits as a table, as a loop fills it
 pub tops-tab : (n z : ℕ) → tops n z ≡ tab (λ i. bit z (63 - i)) n

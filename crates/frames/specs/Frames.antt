@@ -13,7 +13,7 @@ use Rattle.answer.specs.Choose.{choose}
 use Rattle.answer.specs.Fronts.{left}
 use Rattle.instance.specs.Judging.{lengthAnswer, roomAnswer}
 use Rattle.cipher.specs.Cipher.{encipherOf}
-use Rattle.frames.specs.Bytes.{digits, packed, unpacked, BitList}
+use Rattle.port.specs.Bytes.{digits, packed, unpacked, BitList}
 
 -- P
 abbrev pub byteP : ℕ

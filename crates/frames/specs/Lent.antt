@@ -4,7 +4,7 @@ use mathlib.Core.Path.{_≡_}
 use mathlib.Core.List.{List}
 use lib.ListN.{length}
 use Rattle.answer.specs.declared.Answer.the-variants.{Done}
-use Rattle.frames.specs.Bytes.{BitList}
+use Rattle.port.specs.Bytes.{BitList}
 use Rattle.frames.specs.Frames.{frameSize, framesIn, fileAnswer, newAnswer}
 
 -- a file of n frames, none of them cut

@@ -7,7 +7,7 @@ ghost use lib.Seq.{sets};
 ghost use Rattle.answer.specs.Fronts.{over};
 ghost use Rattle.kreyvium.specs.Words.{bit, bits, tops};
 ghost use Rattle.cipher.specs.Apart.{apart};
-ghost use Rattle.frames.specs.Bytes.{digits, packed, unpacked};
+ghost use Rattle.port.specs.Bytes.{digits, packed, unpacked};
 ghost use Rattle.frames.specs.Inner.{exchangedBy, lowFour};
 
 pub(crate) fn wide(x: u8) -> u64

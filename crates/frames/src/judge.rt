@@ -1,11 +1,11 @@
 // What the calls are lent, judged in the rules' order: 3, 4, then the file frame by frame, 15 and 16 in each, then
 // 16 of a new frame, then 8.
 use crate::FRAME_SIZE;
-use crate::RECORD_BITS;
 use crate::bytes::bit_word;
 use crate::bytes::wide;
 use crate::bytes::word;
 use answer::Answer;
+use port::RECORD_BITS;
 ghost use mathlib.Core.Path.{_≡_};
 ghost use Prim.Native.Nat.{_+_, _*_, _/_, _%_, _^_, _<_, _≤_};
 ghost use lib.ListN.{length};
@@ -13,7 +13,7 @@ ghost use lib.Dec.{ltb};
 ghost use Rattle.answer.specs.declared.Answer.{Answer};
 ghost use Rattle.answer.specs.Answers.{each};
 ghost use Rattle.instance.specs.Judging.{roomAnswer};
-ghost use Rattle.frames.specs.Bytes.{BitList};
+ghost use Rattle.port.specs.Bytes.{BitList};
 ghost use Rattle.frames.specs.Frames.{frameSize, framesIn, begins, frameAnswer, fileAnswer, newAnswer, lengthsAnswer, threeBitsAnswer, endAnswer, appendAnswer, lastAnswer, appendAfterAnswer, readAnswer};
 ghost use Rattle.frames.specs.Lent.{Whole};
 

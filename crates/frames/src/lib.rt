@@ -3,17 +3,14 @@
 // ciphers, which leans on what they promise alone.
 mod bytes;
 mod judge;
-pub mod port;
 mod seal;
 
 use answer::Answer;
 ghost use mathlib.Core.Path.{_≡_};
 ghost use Rattle.frames.specs.Frames.{fileAnswer, Appended, AppendedAfter, FramesRead};
 
-// The bytes of a frame, and the bits of a record.
+// The bytes of a frame.
 pub const FRAME_SIZE: usize = 26;
-
-pub const RECORD_BITS: usize = 64;
 
 // Judges key, record, IV and the file so far, and writes the new frame, which the caller puts at the file's end.
 pub fn append(key: &[u8], record: &[u8], iv: &[u8], file: &[u8], frame: &mut [u8]) -> Answer

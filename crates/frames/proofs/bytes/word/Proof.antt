@@ -4,8 +4,8 @@ use native.Mathlib.Nat.{pow-suc}
 use native.Mathlib.Numerals.{add-one}
 use native.Mathlib.Omega.{arith}
 use denote.Ref.{now}
-use Rattle.frames.specs.Bytes.{digits}
-use Rattle.frames.proofs.Digits.{digits-none, digits-more, below-step, next-fits}
+use Rattle.port.specs.Bytes.{digits}
+use Rattle.port.proofs.Digits.{digits-none, digits-more, below-step, next-fits}
 use Rattle.frames.proofs.Turned.{bytes-tops}
 use borrow.Author.Needs.{needs}
 use Rattle.frames.proofs.bytes.word.Statement.{statement}

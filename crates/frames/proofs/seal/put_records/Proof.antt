@@ -8,7 +8,7 @@ use Rattle.answer.specs.Fronts.{over}
 use Rattle.answer.specs.Bits.{added}
 use Rattle.kreyvium.specs.Words.{tops}
 use Rattle.kreyvium.specs.Kreyvium.{streamOf}
-use Rattle.frames.specs.Bytes.{unpacked}
+use Rattle.port.specs.Bytes.{unpacked}
 use Rattle.frames.specs.Frames.{frameSize, start, framesIn, recordsIn}
 use Rattle.frames.proofs.Sealing.{records-none, records-more, record-read}
 use borrow.Author.Needs.{needs}

@@ -1,12 +1,14 @@
-// A port record's five fields and its 64 bits. No call on frames judges fields: a record is any 64 bits.
-use crate::RECORD_BITS;
+// A port record's five fields and its 64 bits: docs/RULES.md, "Frames". No call on frames judges fields: a record is any
+// 64 bits.
 use answer::Answer;
 ghost use mathlib.Core.Path.{_≡_};
 ghost use Prim.Native.Nat.{ℕ, _+_, _<_, _≤_};
 ghost use lib.ListN.{length, getD};
 ghost use Rattle.answer.specs.Fronts.{over};
-ghost use Rattle.frames.specs.Bytes.{digits, highFirst};
-ghost use Rattle.frames.specs.Layout.{bitsOf, portOf, portMade, fieldsAnswer, foundBy, BitsWritten};
+ghost use Rattle.port.specs.Bytes.{digits, highFirst};
+ghost use Rattle.port.specs.Layout.{bitsOf, portOf, portMade, fieldsAnswer, foundBy, BitsWritten};
+
+pub const RECORD_BITS: usize = 64;
 
 // Made by `new` and `fields` alone, so that each value has room in its field.
 pub struct Port {

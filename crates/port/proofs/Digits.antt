@@ -9,7 +9,7 @@ use lib.ListN.{getD}
 use lib.Pow.{high, shr-shr, mod-pow-add, pow-add}
 use Rattle.filter.proofs.Tab.{tab-at}
 use Rattle.kreyvium.specs.Words.{bit}
-use Rattle.frames.specs.Bytes.{digits, unpacked}
+use Rattle.port.specs.Bytes.{digits, unpacked}
 
 -- For a loop: nothing read, one digit more.
 pub digits-none : (base : ℕ) (s : List ℕ) (p : ℕ) → 0 ≡ digits base s p 0

@@ -1,7 +1,7 @@
-use Rattle.frames.proofs.Layouts.{all-put}
+use Rattle.port.proofs.Layouts.{all-put}
 use borrow.Author.Needs.{needs}
-use Rattle.frames.proofs.port.put_fields.Statement.{statement}
-use Rattle.frames.proofs.port.put_fields.Tie as tie
+use Rattle.port.proofs.put_fields.Statement.{statement}
+use Rattle.port.proofs.put_fields.Tie as tie
 
 put-number-requires : tie.Need-put-number-requires
 put-number-requires c κs = search needs

@@ -1,9 +1,9 @@
 use mathlib.Core.Path.{refl}
-use Rattle.frames.specs.Layout.{portMade}
-use Rattle.frames.proofs.Layouts.{too-large, next}
+use Rattle.port.specs.Layout.{portMade}
+use Rattle.port.proofs.Layouts.{too-large, next}
 use borrow.Author.Needs.{needs}
-use Rattle.frames.proofs.port.Port.new.Statement.{statement}
-use Rattle.frames.proofs.port.Port.new.Tie as tie
+use Rattle.port.proofs.Port.new.Statement.{statement}
+use Rattle.port.proofs.Port.new.Tie as tie
 
 returns : tie.Need-returns
 unfolding portMade

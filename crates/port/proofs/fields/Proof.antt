@@ -2,11 +2,11 @@ use Prim.Native.Nat.{ℕ, _≤_}
 use mathlib.Core.Path.{_≡_, sym, _∙_}
 use native.Mathlib.Omega.{arith}
 use lib.ListN.{length, getD}
-use Rattle.frames.specs.Layout.{portOf}
-use Rattle.frames.proofs.Layouts.{same-port, fields-done, found-stop, found-go}
+use Rattle.port.specs.Layout.{portOf}
+use Rattle.port.proofs.Layouts.{same-port, fields-done, found-stop, found-go}
 use borrow.Author.Needs.{needs}
-use Rattle.frames.proofs.port.fields.Statement.{statement}
-use Rattle.frames.proofs.port.fields.Tie as tie
+use Rattle.port.proofs.fields.Statement.{statement}
+use Rattle.port.proofs.fields.Tie as tie
 
 -- where the judge is done there are 64 bits
 accepted : (c : tie.After-enum-told) →

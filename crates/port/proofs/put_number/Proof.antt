@@ -7,10 +7,10 @@ use denote.Ref.{now}
 use Rattle.answer.specs.Fronts.{over}
 use Rattle.filter.specs.Filter.{tab}
 use Rattle.filter.proofs.Tab.{tab-none, tab-more}
-use Rattle.frames.proofs.Layouts.{highBit, high-bit, high-first}
+use Rattle.port.proofs.Layouts.{highBit, high-bit, high-first}
 use borrow.Author.Needs.{needs}
-use Rattle.frames.proofs.port.put_number.Statement.{statement}
-use Rattle.frames.proofs.port.put_number.Tie as tie
+use Rattle.port.proofs.put_number.Statement.{statement}
+use Rattle.port.proofs.put_number.Tie as tie
 
 abbrev Inv-loop : tie.InvT-loop
 Inv-loop x n out₀ i₀ out i = (out ≡ over (tab (highBit n x) i) out₀) × (i ≤ n) × (n ≤ length out₀) × (length out ≡ length out₀)

@@ -1,8 +1,8 @@
 use Rattle.answer.proofs.Rows.{stop, go}
-use Rattle.frames.specs.Layout.{fieldsAnswer}
+use Rattle.port.specs.Layout.{fieldsAnswer}
 use borrow.Author.Needs.{needs}
-use Rattle.frames.proofs.port.judge.Statement.{statement}
-use Rattle.frames.proofs.port.judge.Tie as tie
+use Rattle.port.proofs.judge.Statement.{statement}
+use Rattle.port.proofs.judge.Tie as tie
 
 exact-requires : tie.Need-exact-requires
 exact-requires c κs = search needs

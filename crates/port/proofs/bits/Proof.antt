@@ -2,8 +2,8 @@ use mathlib.Core.Path.{refl, sym, _∙_}
 use Rattle.answer.proofs.Over.{made, kept}
 use Rattle.instance.proofs.Judged.{room-done}
 use borrow.Author.Needs.{needs}
-use Rattle.frames.proofs.port.bits.Statement.{statement}
-use Rattle.frames.proofs.port.bits.Tie as tie
+use Rattle.port.proofs.bits.Statement.{statement}
+use Rattle.port.proofs.bits.Tie as tie
 
 room-requires : tie.Need-room-requires
 room-requires c κs = search needs

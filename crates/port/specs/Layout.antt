@@ -11,12 +11,12 @@ use Rattle.answer.specs.Bits.{bitsAnswer}
 use Rattle.answer.specs.Choose.{choose}
 use Rattle.answer.specs.Fronts.{left}
 use Rattle.instance.specs.Judging.{lengthAnswer, roomAnswer}
-use Rattle.frames.specs.declared.port.Port.{Port}
-use Rattle.frames.specs.declared.port.Made.{Made}
-use Rattle.frames.specs.declared.port.Made.the-variants as made
-use Rattle.frames.specs.declared.port.Found.{Found}
-use Rattle.frames.specs.declared.port.Found.the-variants as found
-use Rattle.frames.specs.Bytes.{digits, highFirst}
+use Rattle.port.specs.declared.Port.{Port}
+use Rattle.port.specs.declared.Made.{Made}
+use Rattle.port.specs.declared.Made.the-variants as made
+use Rattle.port.specs.declared.Found.{Found}
+use Rattle.port.specs.declared.Found.the-variants as found
+use Rattle.port.specs.Bytes.{digits, highFirst}
 
 abbrev pub portWith : ℕ → ℕ → ℕ → ℕ → ℕ → Port
 portWith number admin link errors load = record { number = number; admin = admin; link = link; errors = errors; load = load }

@@ -24,14 +24,14 @@ use Rattle.instance.specs.Judging.{lengthAnswer}
 use Rattle.instance.proofs.Judged.{length-done}
 use Rattle.filter.specs.Filter.{tab}
 use Rattle.filter.proofs.Tab.{tab-length, tab-at}
-use Rattle.frames.specs.declared.port.Port.{Port}
-use Rattle.frames.specs.declared.port.Made.{Made}
-use Rattle.frames.specs.declared.port.Made.the-variants as made
-use Rattle.frames.specs.declared.port.Found.the-variants as found
-use Rattle.frames.specs.Bytes.{digits, highFirst}
-use Rattle.frames.specs.Layout.{portWith, bitsOf, portOf, Fits, within, portMade, fieldsAnswer, foundBy, BitsWritten}
-use Rattle.frames.proofs.Parts.{wrote-part, part-after}
-use Rattle.frames.proofs.Digits.{digits-below, digits-field, binary-bit}
+use Rattle.port.specs.declared.Port.{Port}
+use Rattle.port.specs.declared.Made.{Made}
+use Rattle.port.specs.declared.Made.the-variants as made
+use Rattle.port.specs.declared.Found.the-variants as found
+use Rattle.port.specs.Bytes.{digits, highFirst}
+use Rattle.port.specs.Layout.{portWith, bitsOf, portOf, Fits, within, portMade, fieldsAnswer, foundBy, BitsWritten}
+use Rattle.port.proofs.Parts.{wrote-part, part-after}
+use Rattle.port.proofs.Digits.{digits-below, digits-field, binary-bit}
 
 -- ---- a field of any width at any place
 

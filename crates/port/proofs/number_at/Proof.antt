@@ -2,12 +2,12 @@ use Prim.Native.Nat.{_≤_, _<_, _-_, _^_}
 use mathlib.Core.Path.{_≡_, ap, _∙_}
 use native.Mathlib.Omega.{arith}
 use denote.Ref.{now}
-use Rattle.frames.specs.Bytes.{digits}
-use Rattle.frames.proofs.Digits.{digits-none, digits-more}
-use Rattle.frames.proofs.Layouts.{read-small}
+use Rattle.port.specs.Bytes.{digits}
+use Rattle.port.proofs.Digits.{digits-none, digits-more}
+use Rattle.port.proofs.Layouts.{read-small}
 use borrow.Author.Needs.{needs}
-use Rattle.frames.proofs.port.number_at.Statement.{statement}
-use Rattle.frames.proofs.port.number_at.Tie as tie
+use Rattle.port.proofs.number_at.Statement.{statement}
+use Rattle.port.proofs.number_at.Tie as tie
 
 abbrev Inv-loop : tie.InvT-loop
 Inv-loop s at n x₀ i₀ x i = (i ≤ n) × (x ≡ digits 2 s at i)
