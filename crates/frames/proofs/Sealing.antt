@@ -17,7 +17,8 @@ use Rattle.kreyvium.specs.Kreyvium.{streamOf}
 use Rattle.kreyvium.proofs.Streams.{stream-length}
 use Rattle.cipher.specs.Cipher.{keystreamOf, encipherOf}
 use Rattle.port.specs.Bytes.{digits, packed, unpacked, BitList}
-use Rattle.frames.specs.Frames.{start, frameOf, recordIn, recordsIn}
+use Rattle.sequence.specs.Files.{start}
+use Rattle.frames.specs.Frames.{frameOf, recordIn, recordsIn}
 use Rattle.frames.specs.Inner.{markBytes}
 use Rattle.port.proofs.Digits.{digits-agree}
 use Rattle.port.proofs.Parts.{part-after}

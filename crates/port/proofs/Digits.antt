@@ -9,7 +9,7 @@ use lib.ListN.{getD}
 use lib.Pow.{high, shr-shr, mod-pow-add, pow-add}
 use Rattle.filter.proofs.Tab.{tab-at}
 use Rattle.kreyvium.specs.Words.{bit}
-use Rattle.port.specs.Bytes.{digits, unpacked}
+use Rattle.port.specs.Bytes.{digits, packed, unpacked}
 
 -- For a loop: nothing read, one digit more.
 pub digits-none : (base : ℕ) (s : List ℕ) (p : ℕ) → 0 ≡ digits base s p 0
@@ -157,3 +157,15 @@ digits-unpacked s p (suc n) h =
   where
     small : (x : ℕ) → x < 256 → x / 1 % 256 ≡ x
     small x g = omega arith
+
+-- and bits packed into bytes are the same number
+pub digits-packed : (n : ℕ) (v : List ℕ) (k : ℕ) → k ≤ n → digits 2 v 0 (8 * k) ≡ digits 256 (packed n v) 0 k
+unfolding digits packed
+digits-packed n v zero h = refl
+digits-packed n v (suc k) h =
+    let e : 8 * suc k ≡ 8 * k + 8 = omega arith in
+    let z : 0 + 8 * k ≡ 8 * (0 + k) = omega arith in
+    ap (digits 2 v 0) e
+    ∙ digits-split 2 v 0 (8 * k) 8
+    ∙ ap₂ (λ (x q : ℕ). x * 256 + digits 2 v q 8) (digits-packed n v k (omega arith)) z
+    ∙ ap (λ (y : ℕ). digits 256 (packed n v) 0 k * 256 + y) (sym (tab-at (λ i. digits 2 v (8 * i) 8) n (0 + k) (omega arith)))

@@ -16,7 +16,7 @@ ghost use Rattle.emit.specs.Emit.{oneHotAnswer, thresholdAnswer, decipherNet, w
 ghost use Rattle.file.specs.File.{checkAnswer};
 ghost use Rattle.file.specs.declared.form.Form.the-variants.{Full};
 ghost use Rattle.port.specs.Layout.{portOf, portMade, fieldsAnswer, foundBy};
-ghost use Rattle.frames.specs.Frames.{fileAnswer};
+ghost use Rattle.sequence.specs.Files.{fileAnswer};
 ghost use Rattle.probe.specs.Replies.{replyOf, meteringOf, sizingOf, EvaluateReply, MeterReply, GlueReply, ChooseReply, KeystreamReply, CipherReply, EmitReply, ScoreReply, ReadReply, WriteReply, printoutOf, PrintReply, AppendReply, AppendAfterReply, FramesReply, fieldingOf, puttingOf, bitsLeft};
 
 #[repr(C)]

@@ -2,10 +2,10 @@ use mathlib.Core.Path.{refl, _∙_}
 use native.Mathlib.Omega.{arith}
 use denote.Ref.{now}
 use Rattle.answer.proofs.Rows.{each-none}
-use Rattle.frames.proofs.Judged.{first-bad, first-good, frames-stop, frames-end}
+use Rattle.sequence.proofs.Judged.{first-bad, first-good, frames-stop, frames-end}
 use borrow.Author.Needs.{needs}
-use Rattle.frames.proofs.judge.whole_frames.Statement.{statement}
-use Rattle.frames.proofs.judge.whole_frames.Tie as tie
+use Rattle.sequence.proofs.whole_frames.Statement.{statement}
+use Rattle.sequence.proofs.whole_frames.Tie as tie
 
 returns : tie.Need-returns
 returns c =

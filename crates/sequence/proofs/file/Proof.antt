@@ -1,8 +1,8 @@
 use mathlib.Core.Path.{refl, _∙_}
-use Rattle.frames.proofs.Judged.{file-stop, file-cut, file-end}
+use Rattle.sequence.proofs.Judged.{file-stop, file-cut, file-end}
 use borrow.Author.Needs.{needs}
-use Rattle.frames.proofs.judge.file.Statement.{statement}
-use Rattle.frames.proofs.judge.file.Tie as tie
+use Rattle.sequence.proofs.file.Statement.{statement}
+use Rattle.sequence.proofs.file.Tie as tie
 
 sub-whole : tie.Need-sub-whole
 sub-whole c = search needs

@@ -3,10 +3,10 @@ use mathlib.Core.Path.{_≡_, sym, _∙_}
 use mathlib.Core.Logic.{⊎-elim}
 use lib.Dec.{ltb}
 use borrow.Author.Tests.{lt-ltb, le-ltb}
-use Rattle.frames.proofs.Judged.{above-sum, above-wrapped}
+use Rattle.sequence.proofs.Judged.{above-sum, above-wrapped}
 use borrow.Author.Needs.{needs}
-use Rattle.frames.proofs.judge.iv_above.Statement.{statement}
-use Rattle.frames.proofs.judge.iv_above.Tie as tie
+use Rattle.sequence.proofs.iv_above.Statement.{statement}
+use Rattle.sequence.proofs.iv_above.Tie as tie
 
 -- the carry of the low words
 carry : (c : tie.Joined1) → (c .if1 .low ≤ 1) × (ltb (c .before .args .p1) (c .before .args .v1) ≡ ltb 0 (c .if1 .low))

@@ -1,10 +1,10 @@
 use Prim.Native.Nat.{_+_}
 use native.Mathlib.Omega.{arith}
 use denote.Ref.{now}
-use Rattle.frames.proofs.Judged.{begins-mark}
+use Rattle.sequence.proofs.Judged.{begins-mark}
 use borrow.Author.Needs.{needs}
-use Rattle.frames.proofs.judge.marked.Statement.{statement}
-use Rattle.frames.proofs.judge.marked.Tie as tie
+use Rattle.sequence.proofs.marked.Statement.{statement}
+use Rattle.sequence.proofs.marked.Tie as tie
 
 shared-slice-read-wide : tie.Need-shared-slice-read-wide
 shared-slice-read-wide c = search needs

@@ -5,11 +5,11 @@ use denote.Ref.{now}
 use Rattle.answer.specs.declared.Answer.the-variants.{Done}
 use Rattle.answer.specs.Answers.{each}
 use Rattle.answer.proofs.Rows.{each-none, each-more}
-use Rattle.frames.specs.Frames.{frameSize, ivNumber, rises, frameAnswer}
-use Rattle.frames.proofs.Judged.{iv-read, rises-carried, frame-bad, frame-low, frame-good, frames-stop, frames-more, frames-end}
+use Rattle.sequence.specs.Files.{frameSize, ivNumber, rises, frameAnswer}
+use Rattle.sequence.proofs.Judged.{iv-read, rises-carried, frame-bad, frame-low, frame-good, frames-stop, frames-more, frames-end}
 use borrow.Author.Needs.{needs}
-use Rattle.frames.proofs.judge.later_frames.Statement.{statement}
-use Rattle.frames.proofs.judge.later_frames.Tie as tie
+use Rattle.sequence.proofs.later_frames.Statement.{statement}
+use Rattle.sequence.proofs.later_frames.Tie as tie
 
 abbrev Inv-loop : tie.InvT-loop
 Inv-loop s whole list p0₀ p1₀ at₀ p0 p1 at =
@@ -18,16 +18,16 @@ Inv-loop s whole list p0₀ p1₀ at₀ p0 p1 at =
 abbrev μ-loop : tie.MeasureT-loop
 μ-loop s whole list p0₀ p1₀ at₀ p0 p1 at = whole - at
 
-word-requires : tie.Need-word-requires Inv-loop μ-loop
-word-requires c κs = search needs
+eight-bytes-requires : tie.Need-eight-bytes-requires Inv-loop μ-loop
+eight-bytes-requires c κs = search needs
 
-word-requires-2 : tie.Need-word-requires-2 Inv-loop μ-loop
-word-requires-2 c κs = search needs
+eight-bytes-requires-2 : tie.Need-eight-bytes-requires-2 Inv-loop μ-loop
+eight-bytes-requires-2 c κs = search needs
 
 loop-holds : tie.Need-loop-holds Inv-loop μ-loop
 loop-holds c =
     let s = c .before .before .before in
-    (search needs, search needs, search needs, each-more 0 _ (each-none _) refl (s .pre .3), iv-read (now (s .args .s)) 0 refl (c .before .word .ensures .0) (c .word2 .ensures .0))
+    (search needs, search needs, search needs, each-more 0 _ (each-none _) refl (s .pre .3), iv-read (now (s .args .s)) 0 refl (c .before .eight-bytes .ensures) (c .eight-bytes2 .ensures))
 
 marked-requires : tie.Need-marked-requires Inv-loop μ-loop
 marked-requires c κs = search needs
@@ -43,17 +43,17 @@ returns c =
     c .bad-frame .ensures
     ∙ frames-stop (s .args .list) (now (s .args .s)) (l .at) (s .args .whole) (l .inv .0) (s .pre .0) (l .inv .3) (m .before .loop-test .taken) (frame-bad _ _ _ (l .inv .0) (m .marked .ensures) (c .before .if1 .taken)) refl
 
-add-word : tie.Need-add-word Inv-loop μ-loop
-add-word c = search needs
+add-eight-bytes : tie.Need-add-eight-bytes Inv-loop μ-loop
+add-eight-bytes c = search needs
 
-word-requires-3 : tie.Need-word-requires-3 Inv-loop μ-loop
-word-requires-3 c κs = search needs
+eight-bytes-requires-3 : tie.Need-eight-bytes-requires-3 Inv-loop μ-loop
+eight-bytes-requires-3 c κs = search needs
 
-add-word-2 : tie.Need-add-word-2 Inv-loop μ-loop
-add-word-2 c = search needs
+add-eight-bytes-2 : tie.Need-add-eight-bytes-2 Inv-loop μ-loop
+add-eight-bytes-2 c = search needs
 
-word-requires-4 : tie.Need-word-requires-4 Inv-loop μ-loop
-word-requires-4 c κs = search needs
+eight-bytes-requires-4 : tie.Need-eight-bytes-requires-4 Inv-loop μ-loop
+eight-bytes-requires-4 c κs = search needs
 
 iv-above-requires : tie.Need-iv-above-requires Inv-loop μ-loop
 iv-above-requires c κs = search needs
@@ -64,7 +64,7 @@ rose : (c : tie.After-iv-above Inv-loop μ-loop)
 rose c =
     let l = c .before .before .before .before .before .before .loop in
     let s = c .before .before .before .before .before .before .before .before .before .before in
-    rises-carried (now (s .args .s)) (l .at) (l .inv .1) (l .inv .4) (iv-read (now (s .args .s)) (l .at) (l .inv .0) (c .before .before .word3 .ensures .0) (c .before .word4 .ensures .0)) (c .iv-above .ensures)
+    rises-carried (now (s .args .s)) (l .at) (l .inv .1) (l .inv .4) (iv-read (now (s .args .s)) (l .at) (l .inv .0) (c .before .before .eight-bytes3 .ensures) (c .before .eight-bytes4 .ensures)) (c .iv-above .ensures)
 
 returns-2 : tie.Need-returns-2 Inv-loop μ-loop
 returns-2 c =
@@ -85,8 +85,8 @@ loop-again c =
     let m = c .before .before .before .before .before in
     let l = m .before .before .loop in
     let s = m .before .before .before .before .before .before in
-    let v = c .before .before .before .word3 .ensures .0 in
-    let w = c .before .before .word4 .ensures .0 in
+    let v = c .before .before .before .eight-bytes3 .ensures in
+    let w = c .before .before .eight-bytes4 .ensures in
     let q : (l .at + 26) / frameSize - 1 ≡ l .at / frameSize = omega arith in
     let good = frame-good _ _ _ (l .inv .0) (m .marked .ensures) (c .before .before .before .before .if1 .left) (rose (c .before)) (c .if2 .left) in
     (omega arith, omega arith, omega (arith, s .pre .0), frames-more (s .args .list) (now (s .args .s)) (l .at) (s .args .whole) (l .inv .0) (s .pre .0) (l .inv .3) good, rw q (iv-read (now (s .args .s)) (l .at) (l .inv .0) v w))
@@ -103,16 +103,16 @@ later-frames-spec =
     (tie.spec
     Inv-loop
     μ-loop
-    word-requires
-    word-requires-2
+    eight-bytes-requires
+    eight-bytes-requires-2
     loop-holds
     marked-requires
     bad-frame-requires
     returns
-    add-word
-    word-requires-3
-    add-word-2
-    word-requires-4
+    add-eight-bytes
+    eight-bytes-requires-3
+    add-eight-bytes-2
+    eight-bytes-requires-4
     iv-above-requires
     returns-2
     add-at

@@ -6,10 +6,9 @@ use native.Mathlib.Omega.{arith}
 use denote.Ref.{now}
 use Rattle.port.specs.Bytes.{digits}
 use Rattle.port.proofs.Digits.{digits-none, digits-more, below-step, next-fits}
-use Rattle.frames.proofs.Turned.{bytes-tops}
 use borrow.Author.Needs.{needs}
-use Rattle.frames.proofs.bytes.word.Statement.{statement}
-use Rattle.frames.proofs.bytes.word.Tie as tie
+use Rattle.sequence.proofs.eight_bytes.Statement.{statement}
+use Rattle.sequence.proofs.eight_bytes.Tie as tie
 
 abbrev Inv-loop : tie.InvT-loop
 Inv-loop s at x₀ i₀ x i = (i ≤ 8) × (x ≡ digits 256 s at i) × (x < 256 ^ i)
@@ -60,14 +59,11 @@ loop-again c =
 
 returns : tie.Need-returns Inv-loop μ-loop
 returns c =
-    let s = c .before .before .before in
-    let a = s .args in
-    let e : c .before .loop .i ≡ 8 = omega arith in
-    let x : c .before .loop .x ≡ digits 256 (now (a .s)) (a .at) 8 = c .before .loop .inv .1 ∙ ap (digits 256 (now (a .s)) (a .at)) e in
-    (x, bytes-tops (now (a .s)) (a .at) _ x (λ k h. omega (arith, c .before .before .shared-slice-known .given (a .at + k))))
+    let a = c .before .before .before .args in
+    c .before .loop .inv .1 ∙ ap (digits 256 (now (a .s)) (a .at)) (omega arith)
 
-pub word-spec : {M : Type 1} → statement M
-word-spec =
+pub eight-bytes-spec : {M : Type 1} → statement M
+eight-bytes-spec =
     tie.close
     (tie.spec
     Inv-loop
