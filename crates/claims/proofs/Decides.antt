@@ -23,11 +23,12 @@ use Rattle.kreyvium.specs.declared.State.{State}
 use Rattle.kreyvium.specs.Kreyvium.{Registers, outOf, rounds, stream, streamOf}
 use Rattle.kreyvium.specs.Words.{tops, stateOf}
 use Rattle.kreyvium.proofs.Bits.{tops-decide}
-use Rattle.frames.specs.declared.port.Port.{Port}
-use Rattle.frames.specs.declared.port.Made.{Made}
-use Rattle.frames.specs.declared.port.Found.{Found}
-use Rattle.frames.specs.Frames.{fileAnswer, Appended, AppendedAfter, FramesRead}
-use Rattle.frames.specs.Layout.{portOf, portMade, fieldsAnswer, foundBy, BitsWritten}
+use Rattle.port.specs.declared.Port.{Port}
+use Rattle.port.specs.declared.Made.{Made}
+use Rattle.port.specs.declared.Found.{Found}
+use Rattle.port.specs.Layout.{portOf, portMade, fieldsAnswer, foundBy, BitsWritten}
+use Rattle.sequence.specs.Files.{fileAnswer}
+use Rattle.frames.specs.Frames.{Appended, AppendedAfter, FramesRead}
 use Rattle.collector.specs.Collector.{AppendedPacked, AppendedAfterPacked, ReadPacked}
 use Rattle.daemon.specs.Packed.{packedOf}
 use Rattle.daemon.specs.Daemon.{Enciphered}
@@ -48,8 +49,8 @@ use Rattle.emit.specs.Emit.{oneHotAnswer, thresholdAnswer, wiringAnswer, deciph
 same-left : {r s : Answer} (front old : List ℕ) {x y : List ℕ} → r ≡ s → x ≡ left r front old → y ≡ left s front old → x ≡ y
 same-left front old e p q = p ∙ ap (λ (t : Answer). left t front old) e ∙ sym q
 
--- A promise that is one equation for what is returned. This is every public function of answer, netlist, instance and filter,
--- and those of the others that are named below.
+-- A promise that is one equation for what is returned. This is every public function of answer, netlist, instance, filter and
+-- sequence, and those of the others that are named below.
 pub equation-decides : {X : Type 0} (due : X) {r s : X} → r ≡ due → s ≡ due → r ≡ s
 equation-decides due p q = p ∙ sym q
 

@@ -19,8 +19,9 @@ use Rattle.evaluate.specs.Evaluate.{Evaluated}
 use Rattle.emit.specs.Emit.{decipherNet, decipherAnswer}
 use Rattle.emit.proofs.Accepted.{lent-of}
 use Rattle.path.proofs.Emission.{emitted-evaluates}
-use Rattle.frames.specs.Bytes.{unpacked, BitList}
-use Rattle.frames.specs.Frames.{start, recordIn, Appended}
+use Rattle.port.specs.Bytes.{unpacked, BitList}
+use Rattle.sequence.specs.Files.{start}
+use Rattle.frames.specs.Frames.{recordIn, Appended}
 use Rattle.frames.specs.Lent.{AppendLent}
 use Rattle.frames.proofs.Judged.{lent-append}
 use Rattle.frames.proofs.Sealing.{unpacked-length, unpacked-small, sealed-bits, sealed-back}

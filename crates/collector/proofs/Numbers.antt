@@ -12,7 +12,8 @@ use Rattle.answer.specs.Fronts.{left}
 use Rattle.answer.proofs.Every.{row-has, refuse-has, each-has}
 use Rattle.instance.specs.Judging.{lengthAnswer, roomAnswer}
 use Rattle.daemon.specs.Packed.{packedOf, Small}
-use Rattle.frames.specs.Frames.{framesIn, frameAnswer, fileAnswer, newAnswer, lengthsAnswer, threeBitsAnswer, endAnswer, appendAnswer, lastAnswer, appendAfterAnswer, readAnswer}
+use Rattle.sequence.specs.Files.{framesIn, frameAnswer, fileAnswer}
+use Rattle.frames.specs.Frames.{newAnswer, lengthsAnswer, threeBitsAnswer, endAnswer, appendAnswer, lastAnswer, appendAfterAnswer, readAnswer}
 
 -- what a call left by an answer, in the words of the answer that was due
 pub left-by : {r due : Answer} (front old : List ℕ) {out : List ℕ} → r ≡ due → out ≡ left r front old → out ≡ left due front old

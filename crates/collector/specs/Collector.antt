@@ -5,7 +5,8 @@ use mathlib.Core.List.{List}
 use lib.ListN.{length}
 use Rattle.answer.specs.Fronts.{left}
 use Rattle.daemon.specs.Packed.{packedOf}
-use Rattle.frames.specs.Frames.{frameOf, framesIn, recordsIn, appendAnswer, appendAfterAnswer, readAnswer}
+use Rattle.sequence.specs.Files.{framesIn}
+use Rattle.frames.specs.Frames.{frameOf, recordsIn, appendAnswer, appendAfterAnswer, readAnswer}
 
 pub record AppendedPacked (key rec iv s out : List ℕ) (r : ℕ) (out′ : List ℕ) : Type 0 where
   pub answered : r ≡ packedOf (appendAnswer key rec iv s (length out))

@@ -4,7 +4,7 @@ use answer::Answer;
 ghost use mathlib.Core.Path.{_≡_};
 ghost use Prim.Native.Nat.{min};
 ghost use Rattle.daemon.specs.Packed.{Small, mostPlace, packedOf};
-ghost use Rattle.frames.specs.Frames.{fileAnswer};
+ghost use Rattle.sequence.specs.Files.{fileAnswer};
 ghost use Rattle.collector.specs.Collector.{AppendedPacked, AppendedAfterPacked, ReadPacked};
 
 // The largest place that fits above number and list.

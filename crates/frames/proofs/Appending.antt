@@ -21,11 +21,13 @@ use Rattle.answer.proofs.Over.{take-over, made}
 use Rattle.answer.proofs.Rows.{refuse-not, pass}
 use Rattle.instance.specs.Judging.{lengthAnswer, roomAnswer}
 use Rattle.instance.proofs.Accepted.{done-room}
-use Rattle.frames.specs.Bytes.{BitList, digits, unpacked}
-use Rattle.frames.specs.Frames.{frameSize, frameOf, start, framesIn, begins, ivNumber, ivValue, rises, above, recordsIn, frameAnswer, fileAnswer, newAnswer, lengthsAnswer, threeBitsAnswer, endAnswer, appendAnswer, lastAnswer, appendAfterAnswer, readAnswer, Appended, AppendedAfter, FramesRead, Rising, fileOf, endToEnd, lastOf, onList, sixteenAt}
+use Rattle.port.specs.Bytes.{BitList, digits, unpacked}
+use Rattle.sequence.specs.Files.{frameSize, start, framesIn, begins, ivNumber, rises, frameAnswer, fileAnswer}
+use Rattle.sequence.proofs.Judged.{begins-marked, begins-there, frame-done, file-done, file-begins, file-rises}
+use Rattle.frames.specs.Frames.{frameOf, ivValue, above, recordsIn, newAnswer, lengthsAnswer, threeBitsAnswer, endAnswer, appendAnswer, lastAnswer, appendAfterAnswer, readAnswer, Appended, AppendedAfter, FramesRead, Rising, fileOf, endToEnd, lastOf, onList, sixteenAt}
 use Rattle.frames.specs.Lent.{Whole}
-use Rattle.frames.proofs.Digits.{digits-agree, digits-unpacked}
-use Rattle.frames.proofs.Judged.{append-lent, lent-append, lent-read, length-good, bits-good, begins-marked, begins-there, frame-done, file-done, file-whole, file-begins, file-rises, last-none, last-whole}
+use Rattle.port.proofs.Digits.{digits-agree, digits-unpacked}
+use Rattle.frames.proofs.Judged.{append-lent, lent-append, lent-read, length-good, bits-good, file-whole, last-none, last-whole}
 use Rattle.frames.proofs.Places.{frame-length, more-frames, more-file, new-iv, new-records}
 
 -- ---- an answer about another list

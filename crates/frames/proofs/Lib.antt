@@ -1,5 +1,3 @@
-pub mod Digits
-pub mod Parts
 pub mod Turned
 pub mod Reversal
 pub mod Spreading
@@ -7,4 +5,3 @@ pub mod Sealing
 pub mod Judged
 pub mod Places
 pub mod Appending
-pub mod Layouts

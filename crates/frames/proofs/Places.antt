@@ -16,12 +16,14 @@ use Rattle.answer.proofs.Over.{over-at}
 use Rattle.filter.proofs.Tab.{tab-at, tab-same}
 use Rattle.kreyvium.specs.Words.{bit}
 use Rattle.cipher.specs.Cipher.{encipherOf}
-use Rattle.frames.specs.Bytes.{digits, packed, unpacked, BitList}
-use Rattle.frames.specs.Frames.{byteP, byteT, frameSize, frameOf, start, framesIn, begins, ivNumber, ivValue, rises, above, recordIn, recordsIn, fileAnswer, newAnswer}
+use Rattle.port.specs.Bytes.{digits, packed, unpacked, BitList}
+use Rattle.sequence.specs.Files.{byteP, byteT, frameSize, start, framesIn, begins, ivNumber, rises, fileAnswer}
+use Rattle.sequence.proofs.Judged.{begins-marked, begins-there, frame-done, file-done, file-begins, file-rises}
+use Rattle.frames.specs.Frames.{frameOf, ivValue, above, recordIn, recordsIn, newAnswer}
 use Rattle.frames.specs.Lent.{Whole}
-use Rattle.frames.proofs.Digits.{Agree, digits-agree, binary-bit}
+use Rattle.port.proofs.Digits.{Agree, digits-agree, binary-bit}
 use Rattle.frames.proofs.Sealing.{packed-length, unpacked-length, sealed-bits, sealed-back}
-use Rattle.frames.proofs.Judged.{begins-marked, begins-there, frame-done, file-done, file-begins, file-rises, new-done}
+use Rattle.frames.proofs.Judged.{new-done}
 
 -- ---- lists that agree have the same bits there
 pub unpacked-agree : (s t : List ℕ) (p q n : ℕ) → Agree s p t q n → unpacked s p (8 * n) ≡ unpacked t q (8 * n)

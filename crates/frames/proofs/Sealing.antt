@@ -16,11 +16,12 @@ use Rattle.kreyvium.proofs.Bits.{bit-small}
 use Rattle.kreyvium.specs.Kreyvium.{streamOf}
 use Rattle.kreyvium.proofs.Streams.{stream-length}
 use Rattle.cipher.specs.Cipher.{keystreamOf, encipherOf}
-use Rattle.frames.specs.Bytes.{digits, packed, unpacked, BitList}
-use Rattle.frames.specs.Frames.{start, frameOf, recordIn, recordsIn}
+use Rattle.port.specs.Bytes.{digits, packed, unpacked, BitList}
+use Rattle.sequence.specs.Files.{start}
+use Rattle.frames.specs.Frames.{frameOf, recordIn, recordsIn}
 use Rattle.frames.specs.Inner.{markBytes}
-use Rattle.frames.proofs.Digits.{digits-agree}
-use Rattle.frames.proofs.Parts.{part-after}
+use Rattle.port.proofs.Digits.{digits-agree}
+use Rattle.port.proofs.Parts.{part-after}
 
 pub packed-length : (n : ℕ) (b : List ℕ) → length (packed n b) ≡ n
 unfolding packed

@@ -15,8 +15,8 @@ use Rattle.filter.proofs.Tab.{tab-length, tab-same, tab-add}
 use Rattle.kreyvium.specs.Words.{bit}
 use Rattle.cipher.specs.Apart.{apart}
 use Rattle.frames.specs.Inner.{lowFour}
-use Rattle.frames.specs.Bytes.{digits}
-use Rattle.frames.proofs.Digits.{digits-below, digits-split}
+use Rattle.port.specs.Bytes.{digits}
+use Rattle.port.proofs.Digits.{digits-below, digits-split}
 
 -- ---- bytes stored
 

@@ -12,8 +12,10 @@ use Rattle.filter.specs.Filter.{tab}
 use Rattle.filter.proofs.Tab.{tab-same}
 use Rattle.kreyvium.specs.Words.{bit, tops}
 use Rattle.kreyvium.proofs.Bits.{length-tops, tops-at, bit-xor}
-use Rattle.frames.specs.Bytes.{digits, unpacked}
-use Rattle.frames.proofs.Digits.{binary-bit, byte-bit, digits-field}
+use Rattle.port.specs.Bytes.{digits, unpacked}
+use Rattle.port.proofs.Digits.{binary-bit, byte-bit, digits-field}
+use Rattle.sequence.specs.Files.{wordAt}
+use Rattle.sequence.proofs.Judged.{word-there}
 
 -- a word's bits as a table, as a loop fills it
 pub tops-tab : (n z : ℕ) → tops n z ≡ tab (λ i. bit z (63 - i)) n
@@ -22,10 +24,10 @@ tops-tab zero z = refl
 tops-tab (suc n) z = ap (λ (t : List ℕ). t ++ bit z (63 - n) ∷ []) (tops-tab n z)
 
 -- read from eight bytes
-pub bytes-tops : (s : List ℕ) (p x : ℕ) → x ≡ digits 256 s p 8 → ((k : ℕ) → k < 8 → getD s (p + k) 0 < 256) → tops 64 x ≡ unpacked s p 64
+pub bytes-tops : (s : List ℕ) (p x : ℕ) → x ≡ wordAt s p → p + 8 ≤ length s → ((k : ℕ) → k < 8 → getD s (p + k) 0 < 256) → tops 64 x ≡ unpacked s p 64
 unfolding unpacked
-bytes-tops s p x e h =
-    tops-tab 64 x ∙ tab-same _ _ 64 (λ i l. ap (λ (y : ℕ). bit y (63 - i)) e ∙ byte-bit s p 8 i h l)
+bytes-tops s p x e h g =
+    tops-tab 64 x ∙ tab-same _ _ 64 (λ i l. ap (λ (y : ℕ). bit y (63 - i)) (e ∙ word-there s p h) ∙ byte-bit s p 8 i g l)
 
 -- read from 64 bits
 pub bits-tops : (s : List ℕ) (p x : ℕ) → x ≡ digits 2 s p 64 → ((i : ℕ) → getD s i 0 ≤ 1) → p + 64 ≤ length s → tops 64 x ≡ take 64 (drop p s)

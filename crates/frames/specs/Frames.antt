@@ -1,60 +1,26 @@
--- Port frames and files of them: docs/RULES.md, "Frames", in its order and with its numbers.
-use Prim.Native.Nat.{ℕ, zero, suc, _+_, _*_, _-_, _/_, _<_}
+-- Port frames, and calls on files of them: docs/RULES.md, "Frames", in its order and with its numbers.
+use Prim.Native.Nat.{ℕ, zero, suc, _+_, _*_, _-_, _<_}
 use mathlib.Core.Path.{_≡_}
-use mathlib.Core.Bool.{Bool, true, false, not}
+use mathlib.Core.Bool.{Bool, true, not}
 use mathlib.Core.List.{List, [], _∷_, _++_}
-use lib.ListN.{length, getD, drop}
-use lib.Dec.{ltb, leb, eqb}
+use lib.ListN.{length, drop}
+use lib.Dec.{ltb, eqb}
 use Rattle.answer.specs.declared.Answer.{Answer}
 use Rattle.answer.specs.declared.Answer.the-variants.{Done, Refused}
-use Rattle.answer.specs.Answers.{_▹_, refuse, each}
+use Rattle.answer.specs.Answers.{_▹_, refuse}
 use Rattle.answer.specs.Bits.{bitsAnswer}
 use Rattle.answer.specs.Choose.{choose}
 use Rattle.answer.specs.Fronts.{left}
 use Rattle.instance.specs.Judging.{lengthAnswer, roomAnswer}
 use Rattle.cipher.specs.Cipher.{encipherOf}
-use Rattle.frames.specs.Bytes.{digits, packed, unpacked, BitList}
-
--- P
-abbrev pub byteP : ℕ
-byteP = 80
-
--- T
-abbrev pub byteT : ℕ
-byteT = 84
+use Rattle.port.specs.Bytes.{digits, packed, unpacked, BitList}
+use Rattle.sequence.specs.Files.{byteP, byteT, frameSize, start, framesIn, ivNumber, fileAnswer}
 
 -- ---- a frame: the mark "PT", 16 bytes of IV (IV0 is the high bit of the first byte), 8 bytes of record enciphered with Kreyvium
 unfoldable pub frameOf : List ℕ → List ℕ → List ℕ → List ℕ
 frameOf key rec iv = (byteP ∷ byteT ∷ packed 16 iv) ++ packed 8 (encipherOf 6 64 key rec [] iv)
 
-abbrev pub frameSize : ℕ
-frameSize = 26
-
--- ---- a file: frames end to end
-
--- where frame k begins
-abbrev pub start : ℕ → ℕ
-start k = frameSize * k
-
--- how many frames begin in a file, a last one that is cut among them
-abbrev pub framesIn : List ℕ → ℕ
-framesIn s = (length s + 25) / frameSize
-
--- a whole frame with its mark begins at p
-unfoldable pub begins : List ℕ → ℕ → Bool
-begins s p =
-    choose (leb (p + frameSize) (length s)) (choose (eqb (getD s p 0) byteP) (eqb (getD s (p + 1) 0) byteT) false) false
-
--- the IV of frame k, read as a number, high byte first
-unfoldable pub ivNumber : List ℕ → ℕ → ℕ
-ivNumber s k = digits 256 s (start k + 2) 16
-
--- it is above the one before, where there is one
-unfoldable pub rises : List ℕ → ℕ → Bool
-rises s zero = true
-rises s (suc k) = ltb (ivNumber s k) (ivNumber s (suc k))
-
--- 128 IV bits, read so
+-- its IV of 128 bits, read as a number, high byte first
 unfoldable pub ivValue : List ℕ → ℕ
 ivValue iv = digits 256 (packed 16 iv) 0 16
 
@@ -74,15 +40,7 @@ unfoldable pub recordsIn : List ℕ → List ℕ → ℕ → List ℕ
 recordsIn key s zero = []
 recordsIn key s (suc k) = recordsIn key s k ++ recordIn key s k
 
--- ---- the answers; l is the file's place among the lists of a call
-
--- at the frame's start: 15, bad mark or cut frame; then 16, IV not above the one before
-unfoldable pub frameAnswer : ℕ → List ℕ → ℕ → Answer
-frameAnswer l s k = refuse 15 l (start k) (not (begins s (start k))) ▹ refuse 16 l (start k) (not (rises s k))
-
--- the whole file, in file order
-unfoldable pub fileAnswer : ℕ → List ℕ → Answer
-fileAnswer l s = each (framesIn s) (frameAnswer l s)
+-- ---- the answers; l is the place of the file or of the last frame among the lists of a call
 
 -- 16 of a new frame, whose start is the file's length
 unfoldable pub newAnswer : ℕ → List ℕ → List ℕ → Answer

@@ -3,7 +3,7 @@ use Prim.Native.Nat.{ℕ, _*_, _/_, _%_, _^_}
 use mathlib.Core.List.{List, [], _∷_}
 use lib.Bits.{bitAnd, bitXor}
 use Rattle.filter.specs.Filter.{tab}
-use Rattle.frames.specs.Frames.{byteP, byteT}
+use Rattle.sequence.specs.Files.{byteP, byteT}
 
 -- a word of 64 bits in which each group of k bits under the mask is exchanged with the k bits above it
 abbrev pub exchangedBy : ℕ → ℕ → ℕ → ℕ

@@ -4,8 +4,9 @@ use mathlib.Core.Path.{_≡_}
 use mathlib.Core.List.{List}
 use lib.ListN.{length}
 use Rattle.answer.specs.declared.Answer.the-variants.{Done}
-use Rattle.frames.specs.Bytes.{BitList}
-use Rattle.frames.specs.Frames.{frameSize, framesIn, fileAnswer, newAnswer}
+use Rattle.port.specs.Bytes.{BitList}
+use Rattle.sequence.specs.Files.{frameSize, framesIn, fileAnswer}
+use Rattle.frames.specs.Frames.{newAnswer}
 
 -- a file of n frames, none of them cut
 pub record Whole (n : ℕ) (s : List ℕ) : Type 0 where

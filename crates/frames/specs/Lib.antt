@@ -1,5 +1,3 @@
-pub mod Bytes
 pub mod Frames
 pub mod Lent
-pub mod Layout
 pub mod Inner

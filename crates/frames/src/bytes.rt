@@ -7,27 +7,13 @@ ghost use lib.Seq.{sets};
 ghost use Rattle.answer.specs.Fronts.{over};
 ghost use Rattle.kreyvium.specs.Words.{bit, bits, tops};
 ghost use Rattle.cipher.specs.Apart.{apart};
-ghost use Rattle.frames.specs.Bytes.{digits, packed, unpacked};
+ghost use Rattle.port.specs.Bytes.{digits, packed};
 ghost use Rattle.frames.specs.Inner.{exchangedBy, lowFour};
 
-pub(crate) fn wide(x: u8) -> u64
+fn wide(x: u8) -> u64
     ensures { λ r. ⌜ (r ≡ x) × (r < 256) ⌝ }
 {
     x as u64
-}
-
-// The word that eight bytes from a place on make.
-pub(crate) fn word(s: &[u8], at: usize) -> u64
-    requires { ⌜ at + 8 ≤ length (now s) ⌝ }
-    ensures { λ r. ⌜ (r ≡ digits 256 (now (s .entry)) at 8) × (tops 64 r ≡ unpacked (now (s .entry)) at 64) ⌝ }
-{
-    let mut x: u64 = 0;
-    let mut i: usize = 0;
-    while i < 8 {
-        x = x * 256 + wide(s[at + i]);
-        i += 1;
-    }
-    x
 }
 
 // A word as eight bytes, at the front of a list.

@@ -1,19 +1,14 @@
 // Frames for port records: docs/RULES.md, "Frames". One file that a switch can append to: frames end to end, each the mark
 // "PT", 16 bytes of IV and 8 bytes of record enciphered with Kreyvium, the IVs rising strictly. A layer above the
-// ciphers, which leans on what they promise alone.
+// ciphers, which leans on what they promise alone. A file is judged by `sequence`; a record's fields are in `port`.
 mod bytes;
 mod judge;
-pub mod port;
 mod seal;
 
 use answer::Answer;
 ghost use mathlib.Core.Path.{_≡_};
-ghost use Rattle.frames.specs.Frames.{fileAnswer, Appended, AppendedAfter, FramesRead};
-
-// The bytes of a frame, and the bits of a record.
-pub const FRAME_SIZE: usize = 26;
-
-pub const RECORD_BITS: usize = 64;
+ghost use Rattle.sequence.specs.Files.{fileAnswer};
+ghost use Rattle.frames.specs.Frames.{Appended, AppendedAfter, FramesRead};
 
 // Judges key, record, IV and the file so far, and writes the new frame, which the caller puts at the file's end.
 pub fn append(key: &[u8], record: &[u8], iv: &[u8], file: &[u8], frame: &mut [u8]) -> Answer
@@ -57,5 +52,5 @@ pub fn read(key: &[u8], file: &[u8], records: &mut [u8]) -> Answer
 pub fn check(file: &[u8]) -> Answer
     ensures { λ r. ⌜ r ≡ fileAnswer 1 (now (file .entry)) ⌝ }
 {
-    judge::file(file, 1)
+    sequence::file(file, 1)
 }

@@ -1,12 +1,12 @@
 // Frames written and read. Kreyvium's keystream comes as a word of 64 bits, its first bit the highest, as a record's
 // eight bytes have theirs.
-use crate::FRAME_SIZE;
-use crate::RECORD_BITS;
 use crate::bytes::bit_word;
 use crate::bytes::put_bits_at;
 use crate::bytes::put_word_at;
 use crate::bytes::reversed;
-use crate::bytes::word;
+use port::RECORD_BITS;
+use sequence::FRAME_SIZE;
+use sequence::word;
 ghost use mathlib.Core.Path.{_≡_};
 ghost use mathlib.Core.List.{_++_};
 ghost use Prim.Native.Nat.{_+_, _*_, _≤_};
@@ -15,8 +15,9 @@ ghost use Rattle.answer.specs.Bits.{added};
 ghost use Rattle.answer.specs.Fronts.{over};
 ghost use Rattle.kreyvium.specs.Words.{bits, tops};
 ghost use Rattle.kreyvium.specs.Kreyvium.{streamOf};
-ghost use Rattle.frames.specs.Bytes.{packed, BitList};
-ghost use Rattle.frames.specs.Frames.{frameSize, frameOf, framesIn, recordsIn};
+ghost use Rattle.port.specs.Bytes.{packed, BitList};
+ghost use Rattle.sequence.specs.Files.{frameSize, framesIn};
+ghost use Rattle.frames.specs.Frames.{frameOf, recordsIn};
 ghost use Rattle.frames.specs.Inner.{markBytes};
 ghost use Rattle.frames.specs.Lent.{Whole};
 

@@ -22,12 +22,12 @@ use Rattle.file.specs.declared.form.Form.the-variants.{Full}
 use Rattle.file.specs.File.{ReadAs, WrittenAs}
 use Rattle.text.specs.declared.Printing.{Printing}
 use Rattle.text.specs.Text.{Printed}
-use Rattle.frames.specs.declared.port.Made.{Made}
-use Rattle.frames.specs.declared.port.Made.the-variants.{Fitting, TooLarge}
-use Rattle.frames.specs.declared.port.Found.{Found}
-use Rattle.frames.specs.declared.port.Found.the-variants as found
+use Rattle.port.specs.declared.Made.{Made}
+use Rattle.port.specs.declared.Made.the-variants.{Fitting, TooLarge}
+use Rattle.port.specs.declared.Found.{Found}
+use Rattle.port.specs.declared.Found.the-variants as found
+use Rattle.port.specs.Layout.{bitsOf}
 use Rattle.frames.specs.Frames.{Appended, AppendedAfter, FramesRead}
-use Rattle.frames.specs.Layout.{bitsOf}
 use Rattle.probe.specs.declared.Reply.{Reply}
 use Rattle.probe.specs.declared.Metering.{Metering}
 use Rattle.probe.specs.declared.Printout.{Printout}

@@ -2,11 +2,11 @@
 // number, list and place: 0, 0, 0 for done.
 use answer::Answer;
 use emit::Size;
-use frames::port::Found;
-use frames::port::Made;
-use frames::port::Port;
 use meter::Level;
 use meter::Metered;
+use port::Found;
+use port::Made;
+use port::Port;
 use text::Printing;
 ghost use mathlib.Core.Path.{_≡_};
 ghost use lib.ListN.{length};
@@ -15,8 +15,8 @@ ghost use Rattle.cells.specs.Cells.{oneHotNet, thresholdNet};
 ghost use Rattle.emit.specs.Emit.{oneHotAnswer, thresholdAnswer, decipherNet, wiringAnswer, decipherAnswer, sizedBy};
 ghost use Rattle.file.specs.File.{checkAnswer};
 ghost use Rattle.file.specs.declared.form.Form.the-variants.{Full};
-ghost use Rattle.frames.specs.Frames.{fileAnswer};
-ghost use Rattle.frames.specs.Layout.{portOf, portMade, fieldsAnswer, foundBy};
+ghost use Rattle.port.specs.Layout.{portOf, portMade, fieldsAnswer, foundBy};
+ghost use Rattle.sequence.specs.Files.{fileAnswer};
 ghost use Rattle.probe.specs.Replies.{replyOf, meteringOf, sizingOf, EvaluateReply, MeterReply, GlueReply, ChooseReply, KeystreamReply, CipherReply, EmitReply, ScoreReply, ReadReply, WriteReply, printoutOf, PrintReply, AppendReply, AppendAfterReply, FramesReply, fieldingOf, puttingOf, bitsLeft};
 
 #[repr(C)]
@@ -400,7 +400,7 @@ fn fielding_of(found: Found) -> Fielding
 pub extern "C" fn probe_fields(bits: &[u8]) -> Fielding
     ensures { λ r. ⌜ r ≡ fieldingOf (foundBy (fieldsAnswer (now (bits .entry))) (portOf (now (bits .entry)))) ⌝ }
 {
-    fielding_of(frames::port::fields(bits))
+    fielding_of(port::fields(bits))
 }
 
 #[no_mangle]
@@ -423,7 +423,7 @@ pub extern "C" fn probe_bits(
             field,
         },
         Made::Fitting(p) => {
-            let reply = told(frames::port::bits(p, result));
+            let reply = told(port::bits(p, result));
             Putting {
                 number: reply.number,
                 list: reply.list,

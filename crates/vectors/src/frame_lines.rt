@@ -5,9 +5,9 @@ use crate::text::say_bits;
 use crate::text::say_bytes;
 use crate::text::say_number;
 use answer::Answer;
-use frames::port::Found;
-use frames::port::Made;
-use frames::port::Port;
+use port::Found;
+use port::Made;
+use port::Port;
 
 const KEY: [u8; 16] = [0, 1, 2, 3, 4, 5, 6, 7, 8, 9, 10, 11, 12, 13, 14, 15];
 
@@ -68,7 +68,7 @@ fn say_port(port: Port) {
 }
 
 fn print_bits(port: Port, record: &mut [u8]) {
-    let r = frames::port::bits(port, record);
+    let r = port::bits(port, record);
     let Answer::Done = r else {
         say(b"refused\n");
         return;
@@ -126,7 +126,7 @@ fn join(first: &[u8], second: &[u8], file: &mut [u8]) {
 }
 
 fn say_record(bits: &[u8]) {
-    let found = frames::port::fields(bits);
+    let found = port::fields(bits);
     match found {
         Found::Record(port) => say_port(port),
         Found::Refused { .. } => say(b" refused"),

@@ -2,8 +2,8 @@ use Prim.Native.Nat.{_-_, _%_, _^_, _<_, _≤_}
 use mathlib.Core.Path.{_≡_, ap, _∙_}
 use native.Mathlib.Omega.{arith}
 use denote.Ref.{now}
-use Rattle.frames.specs.Bytes.{digits}
-use Rattle.frames.proofs.Digits.{digits-none}
+use Rattle.port.specs.Bytes.{digits}
+use Rattle.port.proofs.Digits.{digits-none}
 use Rattle.frames.proofs.Turned.{bits-tops}
 use Rattle.frames.proofs.Spreading.{digits-eight, eight-room}
 use borrow.Author.Needs.{needs}

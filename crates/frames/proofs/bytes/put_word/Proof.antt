@@ -7,7 +7,7 @@ use Rattle.answer.specs.Fronts.{over}
 use Rattle.filter.specs.Filter.{tab}
 use Rattle.filter.proofs.Tab.{tab-none, tab-more}
 use Rattle.kreyvium.specs.Words.{tops}
-use Rattle.frames.specs.Bytes.{digits, packed}
+use Rattle.port.specs.Bytes.{digits, packed}
 use Rattle.frames.proofs.Turned.{word-byte}
 use borrow.Author.Needs.{needs}
 use Rattle.frames.proofs.bytes.put_word.Statement.{statement}

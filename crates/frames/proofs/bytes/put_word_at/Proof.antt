@@ -1,5 +1,5 @@
 use denote.Ref.{now}
-use Rattle.frames.proofs.Parts.{wrote-part}
+use Rattle.port.proofs.Parts.{wrote-part}
 use borrow.Author.Needs.{needs}
 use Rattle.frames.proofs.bytes.put_word_at.Statement.{statement}
 use Rattle.frames.proofs.bytes.put_word_at.Tie as tie

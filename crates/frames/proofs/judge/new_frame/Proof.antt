@@ -38,7 +38,7 @@ returns-2 c =
     let q = x .before in
     let p = q .before in
     let s = p .before .before .before .before in
-    new-above 4 _ _ (s .pre .0) (p .before .if1 .left) (p .word .ensures .0) (q .word2 .ensures .0) (x .bit-word .ensures .0) (y .bit-word2 .ensures .0) (v .iv-above .ensures) (c .if2 .taken)
+    new-above 4 _ _ (s .pre .0) (p .before .if1 .left) (p .word .ensures) (q .word2 .ensures) (x .bit-word .ensures .0) (y .bit-word2 .ensures .0) (v .iv-above .ensures) (c .if2 .taken)
 
 returns-3 : tie.Need-returns-3
 returns-3 c =
@@ -48,7 +48,7 @@ returns-3 c =
     let q = x .before in
     let p = q .before in
     let s = p .before .before .before .before in
-    new-below 4 _ _ (s .pre .0) (p .before .if1 .left) (p .word .ensures .0) (q .word2 .ensures .0) (x .bit-word .ensures .0) (y .bit-word2 .ensures .0) (v .iv-above .ensures) (c .if2 .left)
+    new-below 4 _ _ (s .pre .0) (p .before .if1 .left) (p .word .ensures) (q .word2 .ensures) (x .bit-word .ensures .0) (y .bit-word2 .ensures .0) (v .iv-above .ensures) (c .if2 .left)
 
 pub new-frame-spec : {M : Type 1} → statement M
 new-frame-spec =

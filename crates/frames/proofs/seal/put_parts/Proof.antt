@@ -4,9 +4,9 @@ use mathlib.Core.List.{_++_}
 use denote.Ref.{now}
 use lib.ListN.{length, length-append}
 use Rattle.kreyvium.specs.Words.{tops}
-use Rattle.frames.specs.Bytes.{packed}
+use Rattle.port.specs.Bytes.{packed}
 use Rattle.frames.specs.Inner.{markBytes}
-use Rattle.frames.proofs.Parts.{part-after}
+use Rattle.port.proofs.Parts.{part-after}
 use Rattle.frames.proofs.Sealing.{packed-length}
 use borrow.Author.Needs.{needs}
 use Rattle.frames.proofs.seal.put_parts.Statement.{statement}

@@ -8,8 +8,10 @@ use Rattle.answer.specs.Fronts.{over}
 use Rattle.answer.specs.Bits.{added}
 use Rattle.kreyvium.specs.Words.{tops}
 use Rattle.kreyvium.specs.Kreyvium.{streamOf}
-use Rattle.frames.specs.Bytes.{unpacked}
-use Rattle.frames.specs.Frames.{frameSize, start, framesIn, recordsIn}
+use Rattle.port.specs.Bytes.{unpacked}
+use Rattle.sequence.specs.Files.{frameSize, start, framesIn, wordAt}
+use Rattle.frames.specs.Frames.{recordsIn}
+use Rattle.frames.proofs.Turned.{bytes-tops}
 use Rattle.frames.proofs.Sealing.{records-none, records-more, record-read}
 use borrow.Author.Needs.{needs}
 use Rattle.frames.proofs.seal.put_records.Statement.{statement}
@@ -79,8 +81,10 @@ loop-again c =
     let file = now (a .file) in
     let n = l .at / frameSize in
     let e : l .at ≡ start n = l .inv .0 in
-    let moved : (m : ℕ) → unpacked file (l .at + m) 64 ≡ unpacked file (start n + m) 64 = λ m. ap (λ (j : ℕ). unpacked file (j + m) 64) e in
-    let x = record-read key file n _ _ _ _ (first .word .ensures .1 ∙ moved 2) (second .word2 .ensures .1 ∙ moved 10) (third .word3 .ensures .1 ∙ moved 18)
+    let known = words .before .before .shared-slice-known2 .given in
+    let wordOf : (m x : ℕ) → m + 8 ≤ frameSize → x ≡ wordAt file (l .at + m) → tops 64 x ≡ unpacked file (start n + m) 64 = λ m x h q.
+    bytes-tops file (l .at + m) x q (omega (arith, left (first .before))) (λ k g. omega (arith, known (l .at + m + k))) ∙ ap (λ (j : ℕ). unpacked file (j + m) 64) e in
+    let x = record-read key file n _ _ _ _ (wordOf 2 _ (omega arith) (first .word .ensures)) (wordOf 10 _ (omega arith) (second .word2 .ensures)) (wordOf 18 _ (omega arith) (third .word3 .ensures))
     (cross .crossed .ensures ∙ ap (λ (t : List ℕ). added (tops 64 (third .word3 .result)) (streamOf t (tops 64 (first .word .result) ++ tops 64 (second .word2 .result)) 64)) (words .key-words .ensures)) in
     let r = records-more key file (now (a .records)) n _ x (l .inv .3) (rw (l .inv .1) at (put .put-bits-at .ensures)) in
     let q : (l .at + 26) / frameSize ≡ suc n = omega arith in
