@@ -41,7 +41,7 @@ use Rattle.line.specs.Asked.{askedOf}
 use Rattle.text.specs.declared.Printing.{Printing}
 use Rattle.text.specs.Text.{printed, Printed}
 use Rattle.rounds.specs.Gates.{kreyviumNet}
-use Rattle.register.specs.Judging.{kreyviumAnswer}
+use Rattle.register.specs.Judging.{emitKreyviumAnswer}
 use Rattle.emit.specs.declared.Size.{Size}
 use Rattle.emit.specs.Emit.{oneHotAnswer, thresholdAnswer, wiringAnswer, decipherAnswer, decipherNet, sizedBy}
 
@@ -49,8 +49,8 @@ use Rattle.emit.specs.Emit.{oneHotAnswer, thresholdAnswer, wiringAnswer, deciph
 same-left : {r s : Answer} (front old : List ℕ) {x y : List ℕ} → r ≡ s → x ≡ left r front old → y ≡ left s front old → x ≡ y
 same-left front old e p q = p ∙ ap (λ (t : Answer). left t front old) e ∙ sym q
 
--- A promise that is one equation for what is returned. This is every public function of answer, netlist, instance, filter and
--- sequence, and those of the others that are named below.
+-- A promise that is one equation for what is returned. This is every public function of answer, netlist, instance, judging, filter
+-- and sequence, and those of the others that are named below.
 pub equation-decides : {X : Type 0} (due : X) {r s : X} → r ≡ due → s ≡ due → r ≡ s
 equation-decides due p q = p ∙ sym q
 
@@ -121,7 +121,7 @@ pub emit-decipher-decides : (inst m : ℕ) (idx wh out : List ℕ) {r s : Answer
 emit-decipher-decides inst m idx wh out x y = emitted-decides out x y
 
 pub emit-kreyvium-decides : (m : ℕ) (iv out : List ℕ) {r s : Answer} {v w : List ℕ}
-    → Emitted (kreyviumAnswer m iv (length out)) (kreyviumNet iv m) out r v → Emitted (kreyviumAnswer m iv (length out)) (kreyviumNet iv m) out s w
+    → Emitted (emitKreyviumAnswer m iv (length out)) (kreyviumNet iv m) out r v → Emitted (emitKreyviumAnswer m iv (length out)) (kreyviumNet iv m) out s w
     → (r ≡ s) × (v ≡ w)
 emit-kreyvium-decides m iv out x y = emitted-decides out x y
 

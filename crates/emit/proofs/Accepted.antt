@@ -25,7 +25,7 @@ use Rattle.wiring.specs.Exp.{chain}
 use Rattle.wiring.specs.Decipher.{rowsNet}
 use Rattle.rounds.specs.Gates.{kreyviumNet}
 use Rattle.rounds.proofs.Sound.{kreyvium-gates, kreyvium-outs}
-use Rattle.register.specs.Judging.{kreyviumAnswer}
+use Rattle.register.specs.Judging.{emitKreyviumAnswer}
 use Rattle.register.proofs.Accepted.{kreyvium-accepted}
 use Rattle.emit.specs.declared.Size.{Size}
 use Rattle.emit.specs.Emit.{wiringAnswer, decipherAnswer, decipherNet, sizedBy}
@@ -125,7 +125,7 @@ wiring-of inst m idx wh l h =
 
 -- Kreyvium's writer judges again what was accepted here, so it is done
 pub kreyvium-emitted : (inst m : ℕ) (idx wh out : List ℕ) (r : Answer) (o : List ℕ) → Lent inst m idx wh → inst ≡ 6
-    → length (words (decipherNet inst m idx wh)) ≤ length out → Emitted (kreyviumAnswer m wh (length out)) (kreyviumNet wh m) out r o
+    → length (words (decipherNet inst m idx wh)) ≤ length out → Emitted (emitKreyviumAnswer m wh (length out)) (kreyviumNet wh m) out r o
     → Emitted Done (decipherNet inst m idx wh) out r o
 kreyvium-emitted inst m idx wh out r o l e room w =
     let n = net-kreyvium inst m idx wh e in

@@ -14,5 +14,5 @@ unfoldable pub ivAnswer : ℕ → List ℕ → Answer
 ivAnswer m iv = numbersAnswer 6 m ▹ lengthAnswer 1 (length iv) 128 ▹ bitsAnswer 1 iv
 
 -- and 8 on the result, for which so many words are lent
-unfoldable pub kreyviumAnswer : ℕ → List ℕ → ℕ → Answer
-kreyviumAnswer m iv room = ivAnswer m iv ▹ roomAnswer 2 room (length (words (kreyviumNet iv m)))
+unfoldable pub emitKreyviumAnswer : ℕ → List ℕ → ℕ → Answer
+emitKreyviumAnswer m iv room = ivAnswer m iv ▹ roomAnswer 2 room (length (words (kreyviumNet iv m)))

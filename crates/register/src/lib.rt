@@ -8,7 +8,7 @@ ghost use mathlib.Core.Path.{_≡_};
 ghost use lib.ListN.{length};
 ghost use Rattle.netlist.specs.Emitted.{Emitted};
 ghost use Rattle.rounds.specs.Gates.{kreyviumNet};
-ghost use Rattle.register.specs.Judging.{ivAnswer, kreyviumAnswer};
+ghost use Rattle.register.specs.Judging.{ivAnswer, emitKreyviumAnswer};
 
 // 2 to 4: the record's size and the IV.
 fn judge_iv(m: u32, iv: &[u8]) -> Answer
@@ -27,7 +27,7 @@ fn judge_iv(m: u32, iv: &[u8]) -> Answer
 
 // The netlist for a record of m bits under an IV.
 pub fn emit_kreyvium(m: u32, iv: &[u8], result: &mut [u32]) -> Answer
-    ensures { λ r. ⌜ Emitted (kreyviumAnswer m (now (iv .entry)) (length (now (result .entry)))) (kreyviumNet (now (iv .entry)) m) (now (result .entry)) r (now (result .exit)) ⌝ }
+    ensures { λ r. ⌜ Emitted (emitKreyviumAnswer m (now (iv .entry)) (length (now (result .entry)))) (kreyviumNet (now (iv .entry)) m) (now (result .entry)) r (now (result .exit)) ⌝ }
 {
     let r = judge_iv(m, iv);
     let Answer::Done = r else {

@@ -4,16 +4,12 @@ use crate::text::say;
 use crate::text::say_bits;
 use crate::text::say_number;
 use answer::Answer;
+use netlist::gate::AND_KIND;
 use netlist::gate::Gate;
+use netlist::gate::MUX_KIND;
+use netlist::gate::NOT_KIND;
 use netlist::gate::Taken;
-
-const NOT: u32 = 2;
-
-const XOR: u32 = 3;
-
-const AND: u32 = 4;
-
-const MUX: u32 = 5;
+use netlist::gate::XOR_KIND;
 
 // No call emits this one: 5 XOR 0 1; 2 of 3 over wires 2, 3 and 4, with 6 NOT 2, 7 MUX 3 2 6, 8 AND 2 3,
 // 9 AND 7 4, 10 XOR 9 8; 11 XOR 5 10, out 11. Words: inputs, gates, outputs; kind, a, b, c of each gate; the
@@ -22,31 +18,31 @@ const XOR_AND_THRESHOLD: [u32; 32] = [
     5,
     7,
     1,
-    XOR,
+    XOR_KIND,
     0,
     1,
     0,
-    NOT,
+    NOT_KIND,
     2,
     0,
     0,
-    MUX,
+    MUX_KIND,
     3,
     2,
     6,
-    AND,
+    AND_KIND,
     2,
     3,
     0,
-    AND,
+    AND_KIND,
     7,
     4,
     0,
-    XOR,
+    XOR_KIND,
     9,
     8,
     0,
-    XOR,
+    XOR_KIND,
     5,
     10,
     0,
@@ -92,7 +88,7 @@ fn one_hot(n: u32, net: &mut [u32], inputs: &[u8]) {
     line(b"rules, Cases, one-hot", net, inputs);
 }
 
-fn print_edges() {
+fn print_thresholds() {
     let mut two = [0u32; 24];
     threshold(
         b"rules, Cases, threshold 2 of 3",
@@ -108,6 +104,9 @@ fn print_edges() {
         &mut two,
         &[1, 0, 0],
     );
+}
+
+fn print_edges() {
     let mut three = [0u32; 12];
     threshold(
         b"rules, Cases, threshold 3 of 3",
@@ -126,11 +125,9 @@ fn print_edges() {
         &mut four,
         &[1, 1, 1],
     );
-    line(
-        b"rules, Cases, XOR of 2 with 2 of 3",
-        &XOR_AND_THRESHOLD,
-        &[1, 0, 0, 1, 1],
-    );
+}
+
+fn print_one_hots() {
     let mut pair = [0u32; 26];
     one_hot(2, &mut pair, &[1, 0]);
     let mut none = [0u32; 8];
@@ -202,6 +199,18 @@ fn print_two_of_three() {
 }
 
 // ZERO, ONE and the first round; the last round, which gives the bit.
+fn say_kreyvium(net: &[u32]) {
+    say(b"rules, What is emitted, Kreyvium of 1 bit, IV all zero: ");
+    say_number(answer::word_at(net, 1) as usize);
+    say(b" gates, from");
+    say_gates(net, 0, 16);
+    say(b" to");
+    say_gates(net, 16130, 16147);
+    say(b" out ");
+    say_number(answer::word_at(net, 64591) as usize);
+    say(b"\n");
+}
+
 fn print_kreyvium() {
     let mut net = [0u32; 64592];
     let r = emit::emit_decipher(6, 1, &[], &[0; 128], &mut net);
@@ -209,19 +218,18 @@ fn print_kreyvium() {
         say(b"refused\n");
         return;
     };
-    say(b"rules, What is emitted, Kreyvium of 1 bit, IV all zero: ");
-    say_number(answer::word_at(&net, 1) as usize);
-    say(b" gates, from");
-    say_gates(&net, 0, 16);
-    say(b" to");
-    say_gates(&net, 16130, 16147);
-    say(b" out ");
-    say_number(answer::word_at(&net, 64591) as usize);
-    say(b"\n");
+    say_kreyvium(&net);
 }
 
 pub(crate) fn print() {
+    print_thresholds();
     print_edges();
+    line(
+        b"rules, Cases, XOR of 2 with 2 of 3",
+        &XOR_AND_THRESHOLD,
+        &[1, 0, 0, 1, 1],
+    );
+    print_one_hots();
     print_two_of_three();
     print_kreyvium();
 }

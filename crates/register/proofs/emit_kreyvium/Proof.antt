@@ -8,7 +8,7 @@ use Rattle.netlist.specs.Words.{words}
 use Rattle.instance.specs.Judging.{roomAnswer}
 use Rattle.instance.proofs.Judged.{room-done}
 use Rattle.rounds.specs.Gates.{kreyviumNet}
-use Rattle.register.specs.Judging.{ivAnswer, kreyviumAnswer}
+use Rattle.register.specs.Judging.{ivAnswer, emitKreyviumAnswer}
 use Rattle.register.proofs.Words.{kreyvium-length}
 use Rattle.register.proofs.Accepted.{iv-done}
 use borrow.Author.Needs.{needs}
@@ -37,7 +37,7 @@ enum-told-2 : tie.Need-enum-told-2
 enum-told-2 c = search needs
 
 returns : tie.Need-returns
-unfolding kreyviumAnswer
+unfolding emitKreyviumAnswer
 returns c =
     let j = c .before .before in
     let a = j .before .before .before .args in
@@ -62,7 +62,7 @@ enum-told-4 : tie.Need-enum-told-4
 enum-told-4 c = search needs
 
 returns-2 : tie.Need-returns-2
-unfolding kreyviumAnswer
+unfolding emitKreyviumAnswer
 returns-2 c =
     let r = c .before .before in
     let a = r .before .before .before .before .before .before .args in
@@ -78,7 +78,7 @@ same-length : tie.Need-same-length
 same-length c = search needs
 
 returns-3 : tie.Need-returns-3
-unfolding kreyviumAnswer
+unfolding emitKreyviumAnswer
 returns-3 c =
     let k = c .before .before in
     let t = k .before .before in
