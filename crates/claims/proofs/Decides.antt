@@ -34,8 +34,9 @@ use Rattle.daemon.specs.Packed.{packedOf}
 use Rattle.daemon.specs.Daemon.{Enciphered}
 use Rattle.path.specs.Path.{Scored}
 use Rattle.cells.specs.Cells.{oneHotNet, thresholdNet}
-use Rattle.file.specs.declared.form.Form.{Form}
-use Rattle.file.specs.File.{checkAnswer, ReadAs, WrittenAs}
+use Rattle.records.specs.declared.form.Form.{Form}
+use Rattle.records.specs.File.{checkAnswer}
+use Rattle.file.specs.File.{ReadAs, WrittenAs}
 use Rattle.line.specs.declared.Asked.{Asked}
 use Rattle.line.specs.Asked.{askedOf}
 use Rattle.text.specs.declared.Printing.{Printing}

@@ -5,7 +5,7 @@ use mathlib.Core.List.{List}
 use Rattle.answer.specs.declared.Answer.{Answer}
 use Rattle.netlist.specs.Net.{Net}
 use Rattle.meter.specs.declared.Level.{Level}
-use Rattle.file.specs.declared.form.Form.the-variants.{Full}
+use Rattle.records.specs.declared.form.Form.the-variants.{Full}
 use Rattle.probe.specs.declared.Reply.{Reply}
 use Rattle.probe.specs.declared.Metering.{Metering}
 use Rattle.probe.specs.declared.Printout.{Printout}

@@ -10,8 +10,8 @@ use Rattle.answer.specs.Answers.{numberOf, listOf, placeOf, _▹_, refuse}
 use Rattle.answer.specs.Bits.{bitsAnswer}
 use Rattle.answer.proofs.Every.{row-has, refuse-has}
 use Rattle.instance.specs.Judging.{lengthAnswer, roomAnswer}
-use Rattle.file.specs.declared.form.Form.{Form}
-use Rattle.file.specs.File.{checkAnswer}
+use Rattle.records.specs.declared.form.Form.{Form}
+use Rattle.records.specs.File.{checkAnswer}
 use Rattle.file.proofs.Round.{check-has}
 use Rattle.daemon.specs.Packed.{mostPlace, packedOf, Small}
 use Rattle.daemon.specs.Daemon.{kreyviumAnswer}

@@ -3,8 +3,8 @@
 use answer::Answer;
 ghost use mathlib.Core.Path.{_≡_};
 ghost use Prim.Native.Nat.{min};
-ghost use Rattle.file.specs.declared.form.Form.{Form};
-ghost use Rattle.file.specs.File.{checkAnswer};
+ghost use Rattle.records.specs.declared.form.Form.{Form};
+ghost use Rattle.records.specs.File.{checkAnswer};
 ghost use Rattle.daemon.specs.Packed.{Small, mostPlace, packedOf};
 ghost use Rattle.daemon.specs.Daemon.{withoutIndices, Enciphered};
 

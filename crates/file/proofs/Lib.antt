@@ -1,7 +1,6 @@
 pub mod Joined
 pub mod Written
-pub mod Found
-pub mod Judged
+pub mod Again
 pub mod Put
 pub mod Round
 pub mod Samples

@@ -18,14 +18,18 @@ use Rattle.netlist.specs.Gates.{gateWords}
 use Rattle.netlist.specs.Words.{gatePlace, gatesOf, outputsOf, gateAt}
 use Rattle.netlist.specs.Check.{netAnswer}
 use Rattle.netlist.specs.Sound.{Sound}
-use Rattle.file.specs.declared.form.Form.{Form}
-use Rattle.file.specs.declared.wires.Quad.{Quad}
-use Rattle.file.specs.Bytes.{little, wordAt, joined}
-use Rattle.file.specs.File.{byteN, byteG, byteO, markOf, widthOf, wordsBytes, headBytes, gateBytes, outBytes, fileOf, inputsIn, gatesIn, outputsIn, startOf, fourIn, outWord, wordsIn, writeAnswer}
-use Rattle.file.specs.Steps.{QuadOf, Room}
-use Rattle.file.proofs.Joined.{joined-length, little-length}
+use Rattle.records.specs.declared.form.Form.{Form}
+use Rattle.records.specs.declared.Quad.{Quad}
+use Rattle.records.specs.Bytes.{wordAt, joined}
+use Rattle.records.specs.File.{byteN, byteG, byteO, markOf, widthOf, inputsIn, gatesIn, outputsIn, startOf, fourIn, outWord, wordsIn}
+use Rattle.records.specs.Quads.{quadIn}
+use Rattle.records.proofs.Joined.{joined-length}
+use Rattle.records.proofs.Found.{fours-length, words-length}
+use Rattle.file.specs.Bytes.{little}
+use Rattle.file.specs.File.{wordsBytes, headBytes, gateBytes, outBytes, fileOf, writeAnswer}
+use Rattle.file.specs.Steps.{Room}
+use Rattle.file.proofs.Joined.{little-length}
 use Rattle.file.proofs.Written.{wordsBytes-length, gate-length, out-length, file-length}
-use Rattle.file.proofs.Found.{fours-length, words-length}
 
 -- ---- stores that follow one another
 
@@ -139,11 +143,11 @@ module _ (form : Form) (net : List ℕ) (room : ℕ) {r : Answer} {n : ℕ} (e :
 
 -- ---- words
 
-pub quad-put : (form : Form) (s l : List ℕ) (g : ℕ) {m n : List ℕ} {at : ℕ} {q : Quad} → QuadOf form s at q → at ≡ startOf form s g
+pub quad-put : (form : Form) (s l : List ℕ) (g : ℕ) {m n : List ℕ} {at : ℕ} {q : Quad} → q ≡ quadIn form s at → at ≡ startOf form s g
     → m ≡ sets l 3 (joined g (fourIn form s)) → n ≡ sets m (gatePlace g) (q .kind ∷ q .a ∷ q .b ∷ q .c ∷ []) → n ≡ sets l 3 (joined (g + 1) (fourIn form s))
-unfolding fourIn
+unfolding fourIn quadIn
 quad-put form s l g {m} {n} {at} {q} d e a b =
-    put-next (fourIn form s) l 3 g a (ap (λ k. 3 + k) (sym (fours-length form s g))) (rw (← e, ← d .kind, ← d .a, ← d .b, ← d .c) b)
+    put-next (fourIn form s) l 3 g a (ap (λ k. 3 + k) (sym (fours-length form s g))) (rw (← e) (rw d at b))
 
 pub outs-put : (s l : List ℕ) (from base o : ℕ) {m n : List ℕ} {x : ℕ} → x ≡ wordAt s (from + 6 * o + 2) → m ≡ sets l base (joined o (outWord s from))
     → n ≡ set m (base + o) x → n ≡ sets l base (joined (o + 1) (outWord s from))

@@ -21,14 +21,16 @@ use Rattle.netlist.specs.Words.{gatePlace, inputsOf, gatesOf, outputsOf}
 use Rattle.netlist.specs.Check.{operandAnswer, takenAnswer, wordsAnswer, wiresAnswer, netAnswer}
 use Rattle.netlist.specs.Sound.{Limits, Sound}
 use Rattle.netlist.proofs.Accepted.{done-sound}
-use Rattle.file.specs.declared.form.Form.{Form}
-use Rattle.file.specs.declared.form.Form.the-variants.{Full}
+use Rattle.records.specs.declared.form.Form.{Form}
+use Rattle.records.specs.declared.form.Form.the-variants.{Full}
+use Rattle.records.specs.File.{widthOf, inputsIn, gatesIn, outputsIn, wordsIn, recordAnswer, gateRecord, outRecord, outsAnswer, recordsAnswer, readAnswer, checkAnswer}
+use Rattle.records.proofs.Joined.{joined-length}
+use Rattle.records.proofs.Found.{words-length}
+use Rattle.records.proofs.Judged.{check-framed, read-done}
 use Rattle.file.specs.Bytes.{Bytes}
-use Rattle.file.specs.File.{widthOf, gateBytes, fileOf, inputsIn, gatesIn, outputsIn, wordsIn, recordAnswer, gateRecord, outRecord, outsAnswer, recordsAnswer, readAnswer, checkAnswer, writeAnswer, ReadAs, WrittenAs}
-use Rattle.file.proofs.Joined.{joined-length}
+use Rattle.file.specs.File.{gateBytes, fileOf, writeAnswer, ReadAs, WrittenAs}
 use Rattle.file.proofs.Written.{gate-length, file-length, limits-done, words-back, check-written, room-written}
-use Rattle.file.proofs.Found.{words-length, file-again}
-use Rattle.file.proofs.Judged.{check-framed, read-done}
+use Rattle.file.proofs.Again.{file-again}
 
 -- ---- the check beside the reading
 

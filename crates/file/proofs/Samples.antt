@@ -9,9 +9,11 @@ use Rattle.answer.specs.Answers.{_▹_, refuse, each}
 use Rattle.answer.specs.Fronts.{over, left}
 use Rattle.netlist.specs.Gates.{takenOf}
 use Rattle.netlist.specs.Check.{operandAnswer, takenAnswer, wordsAnswer, netAnswer}
-use Rattle.file.specs.declared.form.Form.the-variants.{Full}
-use Rattle.file.specs.Bytes.{little, wordAt, joined}
-use Rattle.file.specs.File.{markOf, widthOf, wordsBytes, headBytes, outBytes, fileOf, sizeAt, startOf, operandAt, fourIn, outWord, wordsIn, begins, recordAnswer, gateRecord, outRecord, outsAnswer, recordsAnswer, readAnswer, checkAnswer, writeAnswer, ReadAs, WrittenAs}
+use Rattle.records.specs.declared.form.Form.the-variants.{Full}
+use Rattle.records.specs.Bytes.{wordAt, joined}
+use Rattle.records.specs.File.{markOf, widthOf, sizeAt, startOf, operandAt, fourIn, outWord, wordsIn, begins, recordAnswer, gateRecord, outRecord, outsAnswer, recordsAnswer, readAnswer, checkAnswer}
+use Rattle.file.specs.Bytes.{little}
+use Rattle.file.specs.File.{wordsBytes, headBytes, outBytes, fileOf, writeAnswer, ReadAs, WrittenAs}
 
 abbrev pub pass : List ℕ
 pass = 1 ∷ 0 ∷ 1 ∷ 0 ∷ []

@@ -8,7 +8,7 @@ use native.Mathlib.Nat.{add-zero, add-assoc, zero-add}
 use lib.ListN.{length, getD, length-append, List·getD-append}
 use lib.Seq.{getD-append-add}
 use lib.Dec.{ltb}
-use borrow.Author.Tests.{ltb-true, le-ltb, le-leb, eq-eqb}
+use borrow.Author.Tests.{ltb-true, le-ltb}
 use Rattle.answer.specs.declared.Answer.the-variants.{Done}
 use Rattle.answer.specs.Choose.{choose}
 use Rattle.answer.proofs.Rows.{then-done, both, refuse-not, each-done}
@@ -18,11 +18,15 @@ use Rattle.netlist.specs.Check.{countsAnswer, wiresAnswer, netAnswer}
 use Rattle.netlist.specs.Sound.{Limits, Sound}
 use Rattle.netlist.proofs.Gates.{operands-low}
 use Rattle.netlist.proofs.Accepted.{sound-done}
-use Rattle.file.specs.declared.form.Form.{Form}
-use Rattle.file.specs.declared.form.Form.the-variants.{Full}
-use Rattle.file.specs.Bytes.{little, wordAt, joined}
-use Rattle.file.specs.File.{byteN, byteG, byteO, markOf, widthOf, wordsBytes, headBytes, gateBytes, outBytes, fileOf, inputsIn, gatesIn, outputsIn, begins, sizeAt, startOf, operandAt, fourIn, outWord, wordsIn, recordAnswer, gateRecord, outRecord, outsAnswer, recordsAnswer, checkAnswer}
-use Rattle.file.proofs.Joined.{joined-at, joined-in, joined-length, joined-most, part, part-all, joined-part, little-length, word-little}
+use Rattle.records.specs.declared.form.Form.{Form}
+use Rattle.records.specs.declared.form.Form.the-variants.{Full}
+use Rattle.records.specs.Bytes.{wordAt, joined}
+use Rattle.records.specs.File.{byteN, byteG, byteO, markOf, widthOf, inputsIn, gatesIn, outputsIn, sizeAt, startOf, operandAt, fourIn, outWord, wordsIn, recordAnswer, gateRecord, outRecord, outsAnswer, recordsAnswer, checkAnswer}
+use Rattle.records.proofs.Joined.{joined-at, joined-in, joined-length}
+use Rattle.records.proofs.Judged.{begins-yes}
+use Rattle.file.specs.Bytes.{little}
+use Rattle.file.specs.File.{wordsBytes, headBytes, gateBytes, outBytes, fileOf}
+use Rattle.file.proofs.Joined.{joined-most, part, part-all, joined-part, little-length, word-little}
 
 -- ---- the laws of a form: what every form has to meet
 
@@ -83,10 +87,6 @@ words-in s net q p n j h l b =
 head-part : (ws : List ℕ) → inputsOf ws ∷ gatesOf ws ∷ outputsOf ws ∷ [] ≡ part ws 0 3
 unfolding part
 head-part ws = refl
-
-pub begins-yes : (s : List ℕ) (p letter size : ℕ) → p + size ≤ length s → getD s p 0 ≡ byteN → getD s (p + 1) 0 ≡ letter → begins s p letter size ≡ true
-unfolding begins
-begins-yes s p letter size h a b = simp (le-leb _ _ h, eq-eqb _ _ a, eq-eqb _ _ b)
 
 record-done : (s : List ℕ) (p letter size : ℕ) → p + size ≤ length s → getD s p 0 ≡ byteN → getD s (p + 1) 0 ≡ letter → recordAnswer s p letter size ≡ Done
 unfolding recordAnswer

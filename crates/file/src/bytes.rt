@@ -1,30 +1,13 @@
-// Words and marks as bytes of a list, words with the low byte first. Room is the caller's to see to.
-use crate::form::BYTE_N;
+// Words and marks stored as bytes, words with the low byte first. Room is the caller's to see to.
+use records::form::BYTE_N;
 ghost use mathlib.Core.Path.{_≡_};
 ghost use mathlib.Core.List.{[], _∷_};
 ghost use Prim.Native.Nat.{_+_, _*_, _<_, _≤_};
 ghost use lib.ListN.{length};
 ghost use lib.Seq.{sets};
-ghost use Rattle.file.specs.Bytes.{little, wordAt};
-ghost use Rattle.file.specs.File.{byteN, wordsBytes};
-
-pub(crate) fn wide(x: u8) -> u32
-    ensures { λ r. ⌜ (r ≡ x) × (r < 256) ⌝ }
-{
-    x as u32
-}
-
-// The word that four bytes from p on make.
-pub(crate) fn word_at(s: &[u8], p: usize) -> u32
-    requires { ⌜ p + 4 ≤ length (now s) ⌝ }
-    ensures { λ r. ⌜ r ≡ wordAt (now (s .entry)) p ⌝ }
-{
-    let a = wide(s[p]);
-    let b = wide(s[p + 1]);
-    let c = wide(s[p + 2]);
-    let d = wide(s[p + 3]);
-    a + 256 * b + 65536 * c + 16777216 * d
-}
+ghost use Rattle.records.specs.File.{byteN};
+ghost use Rattle.file.specs.Bytes.{little};
+ghost use Rattle.file.specs.File.{wordsBytes};
 
 pub(crate) fn put_word(out: &mut [u8], at: usize, x: u32)
     requires { ⌜ at + 4 ≤ length (now out) ⌝ }

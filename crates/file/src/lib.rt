@@ -2,17 +2,14 @@
 // counts (9), room (8), records and rest (12), wires (9), and nothing is written before all is judged. The
 // lists are what is read or written, and the result.
 mod bytes;
-pub mod form;
-mod judge;
 mod read;
-mod records;
-mod wires;
 mod write;
 
-use crate::form::Form;
 use answer::Answer;
+use records::form::Form;
 ghost use mathlib.Core.Path.{_≡_};
-ghost use Rattle.file.specs.File.{checkAnswer, ReadAs, WrittenAs};
+ghost use Rattle.records.specs.File.{checkAnswer};
+ghost use Rattle.file.specs.File.{ReadAs, WrittenAs};
 
 // The words in a file.
 pub fn read_file(source: &[u8], result: &mut [u32]) -> Answer
@@ -32,5 +29,5 @@ pub fn write_file(net: &[u32], result: &mut [u8]) -> Answer
 pub fn check_file(source: &[u8]) -> Answer
     ensures { λ r. ⌜ r ≡ checkAnswer Form.Full (now (source .entry)) ⌝ }
 {
-    judge::check_form(source, Form::Full)
+    records::check(source, Form::Full)
 }

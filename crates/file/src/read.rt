@@ -1,12 +1,12 @@
 // The words of a file that was judged, stored as a netlist.
-use crate::bytes::word_at;
-use crate::form::Form;
-use crate::form::HEAD_SIZE;
-use crate::form::OUT_SIZE;
-use crate::wires::Quad;
 use answer::Answer;
 use netlist::GATE_STRIDE;
 use netlist::HEADER_WORDS;
+use records::Quad;
+use records::form::Form;
+use records::form::HEAD_SIZE;
+use records::form::OUT_SIZE;
+use records::word_at;
 ghost use mathlib.Core.Path.{_≡_};
 ghost use mathlib.Core.List.{[], _∷_};
 ghost use Prim.Native.Nat.{_+_, _*_, _≤_};
@@ -15,9 +15,10 @@ ghost use lib.Seq.{sets};
 ghost use Rattle.answer.specs.Fronts.{over};
 ghost use Rattle.netlist.specs.Words.{headerWords, gatePlace};
 ghost use Rattle.netlist.specs.Check.{gateLimit};
-ghost use Rattle.file.specs.Bytes.{joined};
-ghost use Rattle.file.specs.File.{outSize, gatesIn, outputsIn, startOf, fourIn, outWord, wordsIn, ReadAs};
-ghost use Rattle.file.specs.Steps.{GatesThere, Framed};
+ghost use Rattle.records.specs.Bytes.{joined};
+ghost use Rattle.records.specs.File.{outSize, gatesIn, outputsIn, startOf, fourIn, outWord, wordsIn};
+ghost use Rattle.records.specs.Steps.{GatesThere, Framed};
+ghost use Rattle.file.specs.File.{ReadAs};
 
 fn put_counts(out: &mut [u32], inputs: u32, gates: u32, outputs: u32)
     requires { ⌜ headerWords ≤ length (now out) ⌝ }
@@ -46,7 +47,7 @@ fn read_gates(s: &[u8], form: Form, gates: u32, out: &mut [u32]) -> usize
     let mut g: u32 = 0;
     let mut at: usize = HEAD_SIZE;
     while g < gates {
-        let q = crate::wires::quad_at(s, form, at);
+        let q = records::quad_at(s, form, at);
         let size = q.size;
         let i = HEADER_WORDS + GATE_STRIDE * (g as usize);
         put_quad(out, i, q);
@@ -85,7 +86,7 @@ fn read_words(s: &[u8], form: Form, out: &mut [u32])
 pub(crate) fn read_form(source: &[u8], form: Form, result: &mut [u32]) -> Answer
     ensures { λ r. ⌜ ReadAs form (now (source .entry)) (now (result .entry)) r (now (result .exit)) ⌝ }
 {
-    let r = crate::judge::judge(source, form, result.len());
+    let r = records::judge(source, form, result.len());
     let Answer::Done = r else {
         return r;
     };

@@ -2,14 +2,14 @@
 use crate::bytes::put_byte;
 use crate::bytes::put_mark;
 use crate::bytes::put_words;
-use crate::form::BYTE_G;
-use crate::form::BYTE_O;
-use crate::form::Form;
-use crate::form::HEAD_SIZE;
-use crate::form::OUT_SIZE;
 use answer::Answer;
 use netlist::GATE_STRIDE;
 use netlist::HEADER_WORDS;
+use records::form::BYTE_G;
+use records::form::BYTE_O;
+use records::form::Form;
+use records::form::HEAD_SIZE;
+use records::form::OUT_SIZE;
 ghost use mathlib.Core.Path.{_≡_};
 ghost use Prim.Native.Nat.{_+_, _*_, _<_, _≤_};
 ghost use lib.ListN.{length, getD};
@@ -18,8 +18,9 @@ ghost use Rattle.answer.specs.Fronts.{over};
 ghost use Rattle.netlist.specs.Words.{gatePlace, gatesOf, outputsOf};
 ghost use Rattle.netlist.specs.Check.{gateLimit, outputLimit};
 ghost use Rattle.netlist.specs.Sound.{Sound};
-ghost use Rattle.file.specs.Bytes.{joined};
-ghost use Rattle.file.specs.File.{headSize, outSize, gateBytes, outBytes, fileOf, WrittenAs};
+ghost use Rattle.records.specs.Bytes.{joined};
+ghost use Rattle.records.specs.File.{headSize, outSize};
+ghost use Rattle.file.specs.File.{gateBytes, outBytes, fileOf, WrittenAs};
 ghost use Rattle.file.specs.Steps.{Room};
 
 // The record of gate g, and its size.
@@ -29,7 +30,7 @@ fn put_gate(net: &[u32], form: Form, g: u32, out: &mut [u8], at: usize) -> usize
 {
     let i = HEADER_WORDS + GATE_STRIDE * (g as usize);
     let kind = net[i];
-    let n = crate::form::width(form, kind);
+    let n = records::form::width(form, kind);
     put_mark(out, at, BYTE_G);
     put_byte(out, at + 2, kind as u8);
     put_words(net, i + 1, n, out, at + 3);
@@ -75,7 +76,7 @@ fn file_size(net: &[u32], form: Form, gates: u32, outputs: u32) -> usize
     let mut at: usize = HEAD_SIZE;
     while g < gates {
         let i = HEADER_WORDS + GATE_STRIDE * (g as usize);
-        let n = crate::form::width(form, net[i]);
+        let n = records::form::width(form, net[i]);
         at += 3 + 4 * n;
         g += 1;
     }
@@ -88,7 +89,7 @@ fn put_file(net: &[u32], form: Form, out: &mut [u8])
 {
     let gates = net[1];
     let outputs = net[2];
-    let letter = crate::form::mark_of(form);
+    let letter = records::form::mark_of(form);
     put_mark(out, 0, letter);
     put_words(net, 0, HEADER_WORDS, out, 2);
     let at = put_gates(net, form, gates, out);

@@ -18,7 +18,7 @@ use Rattle.netlist.specs.Net.{Net}
 use Rattle.netlist.specs.Emitted.{Emitted}
 use Rattle.emit.specs.declared.Size.{Size}
 use Rattle.path.specs.Path.{Scored}
-use Rattle.file.specs.declared.form.Form.the-variants.{Full}
+use Rattle.records.specs.declared.form.Form.the-variants.{Full}
 use Rattle.file.specs.File.{ReadAs, WrittenAs}
 use Rattle.text.specs.declared.Printing.{Printing}
 use Rattle.text.specs.Text.{Printed}

@@ -1,5 +1,5 @@
 use mathlib.Core.Path.{ap, _∙_}
-use Rattle.file.specs.declared.form.Form.{Form}
+use Rattle.records.specs.declared.form.Form.{Form}
 use Rattle.daemon.specs.Packed.{packedOf}
 use Rattle.daemon.proofs.Numbers.{check-small}
 use borrow.Author.Needs.{needs}

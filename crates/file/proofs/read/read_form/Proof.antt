@@ -1,7 +1,7 @@
 use mathlib.Core.Path.{_∙_, refl, sym}
 use borrow.Author.Needs.{needs}
 use Rattle.answer.proofs.Over.{kept, made}
-use Rattle.file.proofs.Judged.{check-framed, read-done}
+use Rattle.records.proofs.Judged.{check-framed, read-done}
 use Rattle.file.proofs.read.read_form.Statement.{statement}
 use Rattle.file.proofs.read.read_form.Tie as tie
 

@@ -1,12 +1,13 @@
-use Prim.Native.Nat.{_-_, _≤_}
+use Prim.Native.Nat.{_+_, _-_, _≤_}
 use mathlib.Core.Path.{_≡_}
 use native.Mathlib.Omega.{arith}
 use lib.ListN.{length}
 use lib.Seq.{sets}
 use borrow.Author.Needs.{needs}
-use Rattle.file.specs.Bytes.{joined}
-use Rattle.file.specs.File.{fourIn, startOf}
-use Rattle.file.proofs.Judged.{start-next, start-zero, there-at}
+use denote.Ref.{now}
+use Rattle.records.specs.Bytes.{joined}
+use Rattle.records.specs.File.{fourIn, sizeAt, startOf}
+use Rattle.records.proofs.Judged.{quad-size, start-next, start-zero, there-at, whole-quad}
 use Rattle.file.proofs.Put.{joined-none, quad-put}
 use Rattle.file.proofs.read.read_gates.Statement.{statement}
 use Rattle.file.proofs.read.read_gates.Tie as tie
@@ -21,7 +22,11 @@ loop-holds : tie.Need-loop-holds Inv-loop μ-loop
 loop-holds c = (search needs, joined-none _ _ _, start-zero _ _, search needs)
 
 quad-at-requires : tie.Need-quad-at-requires Inv-loop μ-loop
-quad-at-requires c κs = there-at _ _ (c .before .before .before .before .pre .1) (c .loop-test .taken) (c .before .loop .inv .2)
+quad-at-requires c κs = search needs
+
+-- the record that is read is all there
+there : (c : tie.After-quad-at Inv-loop μ-loop) → c .before .before .loop .at + sizeAt (c .before .before .before .before .before .args .form) (now (c .before .before .before .before .before .args .s)) (c .before .before .loop .at) ≤ length (now (c .before .before .before .before .before .args .s))
+there c = there-at _ _ (c .before .before .before .before .before .pre .1) (c .before .loop-test .taken) (c .before .before .loop .inv .2)
 
 cast-i : tie.Need-cast-i Inv-loop μ-loop
 cast-i c = search needs
@@ -38,8 +43,8 @@ put-quad-requires c κs = search needs
 add-at : tie.Need-add-at Inv-loop μ-loop
 add-at c =
     let q = c .before .before .before .before in
-    let l = q .before .before .loop in
-    omega (arith, q .quad-at .ensures .size, there-at _ _ (q .before .before .before .before .before .pre .1) (q .before .loop-test .taken) (l .inv .2))
+    let e = whole-quad _ _ _ (there q) (q .quad-at .ensures) in
+    omega (arith, quad-size _ _ _ e, there q)
 
 add-g : tie.Need-add-g Inv-loop μ-loop
 add-g c = search needs
@@ -51,10 +56,11 @@ loop-again : tie.Need-loop-again Inv-loop μ-loop
 loop-again c =
     let w = c .before .before in
     let q = w .before .before in
-    let l = q .before .before .loop in (
+    let l = q .before .before .loop in
+    let e = whole-quad _ _ _ (there q) (q .quad-at .ensures) in (
       search needs,
-      quad-put _ _ _ _ (q .quad-at .ensures) (l .inv .2) (l .inv .1) (w .put-quad .ensures),
-      start-next _ _ _ (l .inv .2) (q .quad-at .ensures .size),
+      quad-put _ _ _ _ e (l .inv .2) (l .inv .1) (w .put-quad .ensures),
+      start-next _ _ _ (l .inv .2) (quad-size _ _ _ e),
       omega (arith, w .put-quad .kept .0, l .inv .3),
     )
 

@@ -4,8 +4,9 @@ use native.Mathlib.Omega.{arith}
 use lib.ListN.{length, length-set}
 use lib.Seq.{sets}
 use borrow.Author.Needs.{needs}
-use Rattle.file.specs.Bytes.{joined}
-use Rattle.file.specs.File.{outWord}
+use Rattle.records.specs.Bytes.{joined}
+use Rattle.records.specs.File.{outWord}
+use Rattle.records.proofs.Judged.{whole-word}
 use Rattle.file.proofs.Put.{joined-none, outs-put}
 use Rattle.file.proofs.read.read_outs.Statement.{statement}
 use Rattle.file.proofs.read.read_outs.Tie as tie
@@ -52,7 +53,8 @@ loop-less c = search needs
 loop-again : tie.Need-loop-again Inv-loop μ-loop
 loop-again c =
     let l = c .before .before .loop in
-    (search needs, outs-put _ _ _ _ _ (c .word-at .ensures) (l .inv .1) refl, simp length-set (omega (arith, l .inv .2)))
+    let e = whole-word _ _ (omega arith) (c .word-at .ensures) in
+    (search needs, outs-put _ _ _ _ _ e (l .inv .1) refl, simp length-set (omega (arith, l .inv .2)))
 
 same-length : tie.Need-same-length Inv-loop μ-loop
 same-length c = search needs

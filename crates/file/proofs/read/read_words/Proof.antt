@@ -1,8 +1,10 @@
+use mathlib.Core.Path.{_≡_}
 use native.Mathlib.Omega.{arith}
 use borrow.Author.Needs.{needs}
-use Rattle.file.specs.File.{outputsIn}
-use Rattle.file.proofs.Found.{out-ends}
-use Rattle.file.proofs.Judged.{gates-there}
+use denote.Ref.{now}
+use Rattle.records.specs.File.{gatesIn, inputsIn, outputsIn}
+use Rattle.records.proofs.Found.{out-ends}
+use Rattle.records.proofs.Judged.{gates-there, whole-word}
 use Rattle.file.proofs.Put.{words-put}
 use Rattle.file.proofs.read.read_words.Statement.{statement}
 use Rattle.file.proofs.read.read_words.Tie as tie
@@ -16,6 +18,16 @@ word-at-requires-2 c κs = search needs
 word-at-requires-3 : tie.Need-word-at-requires-3
 word-at-requires-3 c κs = search needs
 
+-- the counts are there
+inputs : (c : tie.After-word-at) → c .word-at .result ≡ inputsIn (now (c .before .before .before .args .s))
+inputs c = whole-word _ _ (omega (arith, c .before .before .before .pre .0 .head .fits)) (c .word-at .ensures)
+
+gates : (c : tie.After-word-at2) → c .word-at2 .result ≡ gatesIn (now (c .before .before .before .before .args .s))
+gates c = whole-word _ _ (omega (arith, c .before .before .before .before .pre .0 .head .fits)) (c .word-at2 .ensures)
+
+outputs : (c : tie.After-word-at3) → c .word-at3 .result ≡ outputsIn (now (c .before .before .before .before .before .args .s))
+outputs c = whole-word _ _ (omega (arith, c .before .before .before .before .before .pre .0 .head .fits)) (c .word-at3 .ensures)
+
 put-counts-requires : tie.Need-put-counts-requires
 put-counts-requires c κs = search needs
 
@@ -24,7 +36,7 @@ read-gates-requires c κs =
     let p = c .before .before .before in
     let w = p .before .before .before in
     let f = w .before .before .before .before .pre in
-    let e = w .word-at2 .ensures in
+    let e = gates w in
     (rw e (f .0 .limits .gates), rw e (gates-there _ _ (f .0)), omega (arith, e, f .1, p .put-counts .kept .0))
 
 cast-base : tie.Need-cast-base
@@ -42,8 +54,8 @@ read-outs-requires c κs =
     let p = g .before .before .before .before in
     let w = p .before .before in
     let s = w .before .before .before .before .before in
-    let e = w .before .word-at2 .ensures in
-    let o = w .word-at3 .ensures in (
+    let e = gates (w .before) in
+    let o = outputs w in (
       rw (g .read-gates .ensures .1, e, o) (out-ends (s .args .form) (s .args .s .now) (s .pre .0) (outputsIn (s .args .s .now)) (omega arith)),
       omega (arith, e, o, s .pre .1, g .read-gates .kept .1 .1 .1 .0, p .put-counts .kept .0),
     )
@@ -58,7 +70,7 @@ returns c =
     let p = g .before .before .before .before in
     let w = p .before .before in
     let s = w .before .before .before .before .before in
-    words-put _ _ _ (s .pre .1) (w .before .before .word-at .ensures) (w .before .word-at2 .ensures) (w .word-at3 .ensures) (p .put-counts .ensures) (g .read-gates .ensures .0) (g .read-gates .ensures .1) (o .read-outs .ensures)
+    words-put _ _ _ (s .pre .1) (inputs (w .before .before)) (gates (w .before)) (outputs w) (p .put-counts .ensures) (g .read-gates .ensures .0) (g .read-gates .ensures .1) (o .read-outs .ensures)
 
 pub read-words-spec : {M : Type 1} → statement M
 read-words-spec =

@@ -4,7 +4,7 @@ use native.Mathlib.Omega.{arith}
 use lib.ListN.{length}
 use borrow.Author.Needs.{needs}
 use Rattle.netlist.specs.Words.{gatesOf}
-use Rattle.file.specs.Bytes.{joined}
+use Rattle.records.specs.Bytes.{joined}
 use Rattle.file.specs.File.{gateBytes}
 use Rattle.file.proofs.Put.{gate-size, joined-empty, joined-next}
 use Rattle.file.proofs.Written.{file-length}

@@ -4,7 +4,7 @@ use native.Mathlib.Omega.{arith}
 use lib.ListN.{length}
 use lib.Seq.{sets}
 use borrow.Author.Needs.{needs}
-use Rattle.file.specs.Bytes.{joined}
+use Rattle.records.specs.Bytes.{joined}
 use Rattle.file.specs.File.{gateBytes}
 use Rattle.file.proofs.Joined.{joined-most}
 use Rattle.file.proofs.Put.{joined-empty, joined-next, joined-none, put-next}

@@ -1,0 +1,3 @@
+pub mod Joined
+pub mod Found
+pub mod Judged
