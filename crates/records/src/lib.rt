@@ -17,10 +17,10 @@ ghost use lib.Dec.{ltb};
 ghost use Rattle.answer.specs.Answers.{refuse};
 ghost use Rattle.netlist.specs.Words.{gatePlace};
 ghost use Rattle.netlist.specs.Check.{countsAnswer};
-ghost use Rattle.records.specs.File.{headSize, inputsIn, gatesIn, outputsIn, readAnswer, checkAnswer};
-ghost use Rattle.records.specs.Steps.{bodyAnswer, Headed};
 ghost use Rattle.records.specs.Bytes.{wholeWord};
+ghost use Rattle.records.specs.File.{headSize, inputsIn, gatesIn, outputsIn, readAnswer, checkAnswer};
 ghost use Rattle.records.specs.Quads.{gateThere, wholeQuad};
+ghost use Rattle.records.specs.Steps.{bodyAnswer, Headed};
 
 // A gate's four words, and the bytes that its record takes.
 pub struct Quad {
@@ -69,7 +69,7 @@ fn body(s: &[u8], form: Form) -> Answer
     wires::wires(s, form, w.at)
 }
 
-// For a check.
+// A file judged for a check.
 pub fn check(s: &[u8], form: Form) -> Answer
     ensures { λ r. ⌜ r ≡ checkAnswer form (now (s .entry)) ⌝ }
 {
@@ -84,7 +84,7 @@ pub fn check(s: &[u8], form: Form) -> Answer
     body(s, form)
 }
 
-// For reading into a result with this room.
+// A file judged for reading into a result with this room.
 pub fn judge(s: &[u8], form: Form, room: usize) -> Answer
     ensures { λ r. ⌜ r ≡ readAnswer form (now (s .entry)) room ⌝ }
 {
@@ -103,7 +103,7 @@ pub fn judge(s: &[u8], form: Form, room: usize) -> Answer
     body(s, form)
 }
 
-// The word at p; 0 where not all four bytes are there. That there are four at all is the same test for every p.
+// The word at p; 0 where not all four bytes are there. The first test is the same for every p.
 pub fn word_at(s: &[u8], p: usize) -> u32
     ensures { λ r. ⌜ r ≡ wholeWord (now (s .entry)) p ⌝ }
 {
