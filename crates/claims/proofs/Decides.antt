@@ -50,8 +50,8 @@ use Rattle.emit.specs.Emit.{oneHotAnswer, thresholdAnswer, wiringAnswer, deciph
 same-left : {r s : Answer} (front old : List ℕ) {x y : List ℕ} → r ≡ s → x ≡ left r front old → y ≡ left s front old → x ≡ y
 same-left front old e p q = p ∙ ap (λ (t : Answer). left t front old) e ∙ sym q
 
--- A promise that is one equation for what is returned. This is every public function of answer, netlist, instance, judging, filter
--- and sequence, and those of the others that are named below.
+-- A promise that is one equation for what is returned. This is every public function of answer, netlist, instance, judging, records,
+-- filter and sequence, and those of the others that are named below.
 pub equation-decides : {X : Type 0} (due : X) {r s : X} → r ≡ due → s ≡ due → r ≡ s
 equation-decides due p q = p ∙ sym q
 
