@@ -11,9 +11,10 @@ use Rattle.answer.specs.Answers.{_▹_}
 use Rattle.answer.proofs.Rows.{both, first-done, then-done, one-of, two-of, three-of, refuse-done, refuse-not, pass}
 use Rattle.instance.specs.declared.Sizes.{Sizes}
 use Rattle.instance.specs.Table.{sizesOf, keyBits, rowBits}
-use Rattle.instance.specs.Judging.{lengthAnswer, roomAnswer, firstAnswer}
-use Rattle.instance.proofs.Judged.{key-small, outside-not, length-done, room-done, first-done-at}
-use Rattle.instance.proofs.Accepted.{not-outside, done-length, done-room, done-first}
+use Rattle.answer.specs.Judges.{lengthAnswer, roomAnswer, firstAnswer}
+use Rattle.instance.proofs.Judged.{key-small, outside-not}
+use Rattle.answer.proofs.Judges.{length-done, room-done, first-done-at, done-length, done-room, done-first}
+use Rattle.instance.proofs.Accepted.{not-outside}
 use Rattle.choice.specs.Choice.{chosen, rowOf, pastDraw, chooseAnswer}
 use Rattle.choice.specs.Draws.{Drawn, DrawsFit}
 

@@ -10,7 +10,8 @@ use Rattle.answer.specs.declared.Answer.{Answer}
 use Rattle.answer.specs.Answers.{_▹_, refuse}
 use Rattle.answer.specs.Fronts.{left}
 use Rattle.instance.specs.Table.{keyBits, rowBits}
-use Rattle.instance.specs.Judging.{outside, lengthAnswer, roomAnswer, firstAnswer}
+use Rattle.instance.specs.Judging.{outside}
+use Rattle.answer.specs.Judges.{lengthAnswer, roomAnswer, firstAnswer}
 
 -- 0 .. n - 1 in order
 unfoldable pub upTo : ℕ → List ℕ

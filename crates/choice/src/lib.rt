@@ -138,11 +138,11 @@ fn judge(instance: u32, draws: &[u32], room: usize) -> Answer
     let key = sizes.key;
     let size = sizes.row;
     let len = draws.len();
-    let r = instance::exact(len, size, 1);
+    let r = answer::exact(len, size, 1);
     let Answer::Done = r else {
         return r;
     };
-    let s = instance::room(room, size, 2);
+    let s = answer::room(room, size, 2);
     let Answer::Done = s else {
         return s;
     };

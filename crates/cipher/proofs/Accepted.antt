@@ -6,9 +6,10 @@ use native.Mathlib.Omega.{arith}
 use lib.ListN.{length, getD}
 use borrow.Author.Tests.{ne-eqb}
 use Rattle.answer.specs.declared.Answer.the-variants.{Done}
-use Rattle.answer.proofs.Search.{bits-within}
+use Rattle.answer.proofs.Judges.{bits-within}
 use Rattle.instance.specs.Table.{sizesOf, keyBits, rowBits, whiteBits}
-use Rattle.instance.specs.Wired.{Wired, Keyed}
+use Rattle.instance.specs.Wired.{Wired}
+use Rattle.instance.specs.Keys.{Keyed}
 use Rattle.instance.proofs.Judged.{row-small}
 use Rattle.judging.specs.Judging.{keystreamAnswer, encipherAnswer}
 use Rattle.judging.proofs.Accepted.{keystream-wired, encipher-wired}

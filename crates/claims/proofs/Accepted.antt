@@ -14,7 +14,8 @@ use Rattle.answer.proofs.Over.{take-over, made}
 use Rattle.netlist.specs.Words.{words}
 use Rattle.netlist.specs.Emitted.{Emitted}
 use Rattle.instance.specs.Table.{rowBits, whiteBits}
-use Rattle.instance.specs.Wired.{Wired, Bits, Keyed}
+use Rattle.instance.specs.Wired.{Wired, Bits}
+use Rattle.instance.specs.Keys.{Keyed}
 use Rattle.choice.specs.Choice.{rowOf, Chosen}
 use Rattle.choice.specs.Draws.{Drawn}
 use Rattle.choice.proofs.Accepted.{row-fits, choose-accepted}

@@ -11,7 +11,8 @@ use Rattle.answer.specs.declared.Answer.the-variants.{Done}
 use Rattle.answer.specs.Fronts.{over}
 use Rattle.answer.proofs.Added.{added-twice}
 use Rattle.instance.specs.Table.{sizesOf}
-use Rattle.instance.specs.Wired.{Wired, Bits, Keyed}
+use Rattle.instance.specs.Wired.{Wired, Bits}
+use Rattle.instance.specs.Keys.{Keyed}
 use Rattle.instance.proofs.Accepted.{kreyvium-wired}
 use Rattle.daemon.specs.Daemon.{Enciphered}
 use Rattle.daemon.proofs.Numbers.{done-zero}

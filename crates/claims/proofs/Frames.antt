@@ -12,7 +12,8 @@ use Rattle.netlist.specs.Net.{eval}
 use Rattle.netlist.specs.Words.{inputsOf, gatesOf, words}
 use Rattle.netlist.specs.Emitted.{Emitted}
 use Rattle.instance.specs.Table.{sizesOf}
-use Rattle.instance.specs.Wired.{Wired, Bits, Keyed}
+use Rattle.instance.specs.Wired.{Wired, Bits}
+use Rattle.instance.specs.Keys.{Keyed}
 use Rattle.instance.proofs.Accepted.{kreyvium-wired}
 use Rattle.cipher.specs.Cipher.{encipherOf, Ciphered}
 use Rattle.evaluate.specs.Evaluate.{Evaluated}

@@ -11,7 +11,8 @@ use Rattle.answer.specs.declared.Answer.the-variants.{Done}
 use Rattle.answer.specs.Fronts.{over}
 use Rattle.answer.proofs.Over.{over-at}
 use Rattle.instance.specs.Table.{rowBits}
-use Rattle.instance.specs.Wired.{Wired, Keyed}
+use Rattle.instance.specs.Wired.{Wired}
+use Rattle.instance.specs.Keys.{Keyed}
 use Rattle.filter.specs.Filter.{var}
 use Rattle.filter.specs.Instances.{rowBit}
 use Rattle.filter.specs.Papers.{published}

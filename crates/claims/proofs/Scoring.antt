@@ -20,8 +20,9 @@ use Rattle.netlist.specs.Emitted.{Emitted}
 use Rattle.netlist.proofs.Accepted.{sound-done}
 use Rattle.netlist.proofs.Words.{netOf-words, outs-length}
 use Rattle.instance.specs.Table.{keyBits}
-use Rattle.instance.specs.Wired.{Wired, Bits, Keyed}
-use Rattle.instance.proofs.Accepted.{done-room}
+use Rattle.instance.specs.Wired.{Wired, Bits}
+use Rattle.instance.specs.Keys.{Keyed}
+use Rattle.answer.proofs.Judges.{done-room}
 use Rattle.cipher.specs.Cipher.{encipherOf, Ciphered}
 use Rattle.judging.proofs.Accepted.{encipher-accepted}
 use Rattle.evaluate.specs.Evaluate.{evaluateAnswer, Evaluated}

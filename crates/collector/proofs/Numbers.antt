@@ -10,7 +10,7 @@ use Rattle.answer.specs.Answers.{_▹_, refuse}
 use Rattle.answer.specs.Bits.{bitsAnswer}
 use Rattle.answer.specs.Fronts.{left}
 use Rattle.answer.proofs.Every.{row-has, refuse-has, each-has}
-use Rattle.instance.specs.Judging.{lengthAnswer, roomAnswer}
+use Rattle.answer.specs.Judges.{lengthAnswer, roomAnswer}
 use Rattle.daemon.specs.Packed.{packedOf, Small}
 use Rattle.sequence.specs.Files.{framesIn, frameAnswer, fileAnswer}
 use Rattle.frames.specs.Frames.{newAnswer, lengthsAnswer, threeBitsAnswer, endAnswer, appendAnswer, lastAnswer, appendAfterAnswer, readAnswer}

@@ -14,9 +14,10 @@ use Rattle.answer.specs.Choose.{choose}
 use Rattle.answer.specs.First.{firstFrom}
 use Rattle.answer.specs.Fronts.{left}
 use Rattle.instance.specs.Table.{sizesOf, whiteBits}
-use Rattle.instance.specs.Judging.{outside, numbersAnswer, lengthAnswer, firstAnswer, rowsAnswer, whiteAnswer, roomAnswer}
+use Rattle.instance.specs.Judging.{outside, numbersAnswer, rowsAnswer, whiteAnswer, wiringLengths}
+use Rattle.answer.specs.Judges.{lengthAnswer, firstAnswer, roomAnswer}
 use Rattle.kreyvium.specs.Kreyvium.{streamOf}
-use Rattle.judging.specs.Judging.{wiringLengths, wiringAnswer, encipherAnswer}
+use Rattle.judging.specs.Judging.{wiringAnswer, encipherAnswer}
 use Rattle.cipher.specs.Cipher.{keystreamOf, encipherOf, Ciphered}
 use Rattle.daemon.specs.Daemon.{withoutIndices, kreyviumAnswer, Enciphered}
 

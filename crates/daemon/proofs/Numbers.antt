@@ -9,7 +9,7 @@ use Rattle.answer.specs.declared.Answer.the-variants.{Done, Refused}
 use Rattle.answer.specs.Answers.{numberOf, listOf, placeOf, _▹_, refuse}
 use Rattle.answer.specs.Bits.{bitsAnswer}
 use Rattle.answer.proofs.Every.{row-has, refuse-has}
-use Rattle.instance.specs.Judging.{lengthAnswer, roomAnswer}
+use Rattle.answer.specs.Judges.{lengthAnswer, roomAnswer}
 use Rattle.records.specs.declared.form.Form.{Form}
 use Rattle.records.specs.File.{checkAnswer}
 use Rattle.file.proofs.Round.{check-has}

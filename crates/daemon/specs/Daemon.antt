@@ -11,7 +11,8 @@ use Rattle.answer.specs.Answers.{_▹_, refuse}
 use Rattle.answer.specs.Bits.{bitsAnswer, added}
 use Rattle.answer.specs.Choose.{choose}
 use Rattle.answer.specs.Fronts.{left}
-use Rattle.instance.specs.Judging.{outside, lengthAnswer, roomAnswer}
+use Rattle.instance.specs.Judging.{outside}
+use Rattle.answer.specs.Judges.{lengthAnswer, roomAnswer}
 use Rattle.kreyvium.specs.Kreyvium.{streamOf}
 use Rattle.daemon.specs.Packed.{packedOf}
 

@@ -11,16 +11,15 @@ use Rattle.answer.specs.declared.Answer.{Answer}
 use Rattle.answer.specs.declared.Answer.the-variants.{Done, Refused}
 use Rattle.answer.specs.Fronts.{left}
 use Rattle.answer.proofs.Rows.{both, first-done, then-done, stop, pass}
-use Rattle.answer.proofs.Search.{done-bits}
 use Rattle.netlist.specs.Net.{Net}
 use Rattle.netlist.specs.Words.{words}
 use Rattle.netlist.specs.Emitted.{Emitted}
 use Rattle.netlist.proofs.Puts.{words-length}
 use Rattle.instance.specs.Table.{rowBits, whiteBits}
-use Rattle.instance.specs.Judging.{roomAnswer}
+use Rattle.answer.specs.Judges.{roomAnswer}
 use Rattle.instance.specs.Wired.{Wired, Bits}
-use Rattle.instance.proofs.Judged.{room-done}
-use Rattle.instance.proofs.Accepted.{done-length, done-room, wired-numbers, wired-rows, wired-whitening, done-wired}
+use Rattle.answer.proofs.Judges.{room-done, done-length, done-room, done-bits}
+use Rattle.instance.proofs.Accepted.{wired-numbers, wired-rows, wired-whitening, done-wired}
 use Rattle.wiring.specs.Exp.{chain}
 use Rattle.wiring.specs.Decipher.{rowsNet}
 use Rattle.rounds.specs.Gates.{kreyviumNet}

@@ -25,8 +25,8 @@ use Rattle.netlist.specs.Part.{Part}
 use Rattle.netlist.specs.Glue.{upFrom}
 use Rattle.netlist.proofs.Sim.{split}
 use Rattle.netlist.proofs.Glued.{upFrom-length}
-use Rattle.instance.specs.Judging.{roomAnswer}
-use Rattle.instance.proofs.Judged.{room-done}
+use Rattle.answer.specs.Judges.{roomAnswer}
+use Rattle.answer.proofs.Judges.{room-done}
 use Rattle.cells.specs.Cells.{oneHotNet, thresholdPart, thresholdNet, allGates, lastLevel, firstLevel, firstGates, levelsGates, levelsEnd}
 use Rattle.cells.specs.Loop.{cells}
 use Rattle.cells.proofs.Same.{threshold-part-loop, threshold-net-loop, threshold-net-zero, one-hot-loop}

@@ -12,7 +12,8 @@ use Rattle.answer.specs.Choose.{choose}
 use Rattle.netlist.specs.Net.{Net}
 use Rattle.netlist.specs.Words.{words}
 use Rattle.instance.specs.Table.{keyBits, rowBits, whiteBits}
-use Rattle.instance.specs.Judging.{numbersAnswer, lengthAnswer, rowsAnswer, whiteAnswer, roomAnswer}
+use Rattle.instance.specs.Judging.{numbersAnswer, rowsAnswer, whiteAnswer}
+use Rattle.answer.specs.Judges.{lengthAnswer, roomAnswer}
 use Rattle.cells.specs.Cells.{oneHotNet, thresholdNet}
 use Rattle.wiring.specs.Exp.{chain}
 use Rattle.wiring.specs.Decipher.{rowsNet}

@@ -5,7 +5,8 @@ ghost use mathlib.Core.Path.{_≡_};
 ghost use Prim.Native.Nat.{_*_};
 ghost use Rattle.answer.specs.Answers.{_▹_};
 ghost use Rattle.instance.specs.Table.{keyBits, rowBits, whiteBits};
-ghost use Rattle.instance.specs.Judging.{lengthAnswer, rowsAnswer, whiteAnswer};
+ghost use Rattle.instance.specs.Judging.{rowsAnswer, whiteAnswer};
+ghost use Rattle.answer.specs.Judges.{lengthAnswer};
 ghost use Rattle.emit.specs.Emit.{wiringAnswer};
 
 // 3.
@@ -13,11 +14,11 @@ fn lengths(instance: u32, m: u32, indices: usize, whitening: usize) -> Answer
     ensures { λ r. ⌜ r ≡ lengthAnswer 1 indices (m * rowBits instance) ▹ lengthAnswer 2 whitening (whiteBits instance m) ⌝ }
 {
     let row = instance::row_bits(instance);
-    let r = instance::exact(indices, (m as usize) * row, 1);
+    let r = answer::exact(indices, (m as usize) * row, 1);
     let Answer::Done = r else {
         return r;
     };
-    instance::exact(whitening, instance::whitening_bits(instance, m), 2)
+    answer::exact(whitening, instance::whitening_bits(instance, m), 2)
 }
 
 // 5, 6 and 7.
@@ -44,7 +45,7 @@ pub(crate) fn wiring(instance: u32, m: u32, indices: &[u32], whitening: &[u8]) -
     let Answer::Done = s else {
         return s;
     };
-    let t = instance::bits(whitening, 2);
+    let t = answer::bits(whitening, 2);
     let Answer::Done = t else {
         return t;
     };

@@ -119,7 +119,7 @@ pub fn emit_decipher(
     let Answer::Done = r else {
         return r;
     };
-    let s = instance::room(result.len(), size.words, 3);
+    let s = answer::room(result.len(), size.words, 3);
     let Answer::Done = s else {
         return s;
     };

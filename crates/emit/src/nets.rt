@@ -88,7 +88,7 @@ pub(crate) fn one_hot(n: u32, out: &mut [u32], wires: &mut [u32]) -> Answer
     let g = one_hot_count(n);
     let at = 3 + 4 * (g as usize);
     let need = at + (n as usize + 1);
-    let r = instance::room(out.len(), need, 1);
+    let r = answer::room(out.len(), need, 1);
     let Answer::Done = r else {
         return r;
     };
@@ -141,7 +141,7 @@ pub(crate) fn threshold(d: u32, n: u32, out: &mut [u32], wires: &mut [u32]) -> A
 {
     let g = threshold_count(d, n);
     let at = 3 + 4 * (g as usize);
-    let r = instance::room(out.len(), at + 1, 1);
+    let r = answer::room(out.len(), at + 1, 1);
     let Answer::Done = r else {
         return r;
     };

@@ -6,7 +6,7 @@ use mathlib.Core.List.{List}
 use borrow.Author.Tests.{ltb-false, eqb-true, not-false, le-ltb, eq-eqb}
 use Rattle.answer.specs.declared.Answer.the-variants.{Done}
 use Rattle.answer.proofs.Rows.{first-done, then-done, refuse-done, refuse-not, both}
-use Rattle.answer.proofs.Search.{bits-done, done-bits}
+use Rattle.answer.proofs.Judges.{bits-done, done-bits}
 use Rattle.netlist.proofs.Accepted.{done-sound, sound-done}
 use Rattle.evaluate.specs.Evaluate.{evaluateAnswer}
 use Rattle.evaluate.specs.Ready.{Ready}

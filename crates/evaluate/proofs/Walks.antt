@@ -12,7 +12,7 @@ use Rattle.netlist.specs.Net.{Uses, at, step, run, valAlg, values, eval}
 use Rattle.netlist.specs.Words.{inputsOf, gatesOf, outputsOf, gatePlace, gateAt, gatesAt, netOf}
 use Rattle.netlist.proofs.Gates.{operands-low, taken-known}
 use Rattle.netlist.proofs.Sim.{run-append, run-length, step-front, each-map}
-use Rattle.answer.proofs.Search.{bits-within}
+use Rattle.answer.proofs.Judges.{bits-within}
 use Rattle.netlist.proofs.Bits.{Bits, run-bits}
 use Rattle.netlist.proofs.Glued.{map-append, map-agree}
 use Rattle.netlist.proofs.Words.{gates-length, gates-snoc, outs-length, sound-valid}

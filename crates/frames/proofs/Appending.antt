@@ -19,8 +19,8 @@ use Rattle.answer.specs.Choose.{choose}
 use Rattle.answer.specs.Fronts.{over, left}
 use Rattle.answer.proofs.Over.{take-over, made}
 use Rattle.answer.proofs.Rows.{refuse-not, pass}
-use Rattle.instance.specs.Judging.{lengthAnswer, roomAnswer}
-use Rattle.instance.proofs.Accepted.{done-room}
+use Rattle.answer.specs.Judges.{lengthAnswer, roomAnswer}
+use Rattle.answer.proofs.Judges.{done-room}
 use Rattle.port.specs.Bytes.{BitList, digits, unpacked}
 use Rattle.sequence.specs.Files.{frameSize, start, framesIn, begins, ivNumber, rises, frameAnswer, fileAnswer}
 use Rattle.sequence.proofs.Judged.{begins-marked, begins-there, frame-done, file-done, file-begins, file-rises}

@@ -13,10 +13,8 @@ use Rattle.answer.specs.declared.Answer.the-variants.{Done, Refused}
 use Rattle.answer.specs.Answers.{refuse}
 use Rattle.answer.specs.Bits.{bitsAnswer}
 use Rattle.answer.proofs.Rows.{first-done, then-done, both, one-of, two-of, three-of, refuse-done, refuse-not, refuse-yes}
-use Rattle.answer.proofs.Search.{bits-within, bits-done, done-bits}
-use Rattle.instance.specs.Judging.{lengthAnswer, roomAnswer}
-use Rattle.instance.proofs.Judged.{length-done, room-done}
-use Rattle.instance.proofs.Accepted.{done-length, done-room}
+use Rattle.answer.specs.Judges.{lengthAnswer, roomAnswer}
+use Rattle.answer.proofs.Judges.{length-done, room-done, done-length, done-room, bits-within, bits-done, done-bits}
 use Rattle.port.specs.Bytes.{digits, packed, BitList}
 use Rattle.port.proofs.Digits.{digits-split, digits-packed}
 use Rattle.sequence.specs.Files.{frameSize, start, framesIn, wordAt, ivNumber, fileAnswer}

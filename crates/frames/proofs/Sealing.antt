@@ -8,7 +8,7 @@ use lib.Seq.{getD-take, getD-drop, take-all}
 use Rattle.answer.specs.Bits.{added}
 use Rattle.answer.specs.Fronts.{over}
 use Rattle.answer.proofs.Added.{added-length, added-bits, added-twice}
-use Rattle.answer.proofs.Search.{bits-within}
+use Rattle.answer.proofs.Judges.{bits-within}
 use Rattle.filter.specs.Filter.{tab}
 use Rattle.filter.proofs.Tab.{tab-add, tab-at, tab-length, tab-same}
 use Rattle.kreyvium.specs.Words.{bit, tops}

@@ -11,7 +11,7 @@ use Rattle.answer.specs.Answers.{_▹_, refuse}
 use Rattle.answer.specs.Bits.{bitsAnswer}
 use Rattle.answer.specs.Choose.{choose}
 use Rattle.answer.specs.Fronts.{left}
-use Rattle.instance.specs.Judging.{lengthAnswer, roomAnswer}
+use Rattle.answer.specs.Judges.{lengthAnswer, roomAnswer}
 use Rattle.cipher.specs.Cipher.{encipherOf}
 use Rattle.port.specs.Bytes.{digits, packed, unpacked, BitList}
 use Rattle.sequence.specs.Files.{byteP, byteT, frameSize, start, framesIn, ivNumber, fileAnswer}

@@ -8,7 +8,7 @@ use sequence::iv_above;
 use sequence::word;
 ghost use mathlib.Core.Path.{_≡_};
 ghost use Prim.Native.Nat.{_+_, _*_, _/_, _%_};
-ghost use Rattle.instance.specs.Judging.{roomAnswer};
+ghost use Rattle.answer.specs.Judges.{roomAnswer};
 ghost use Rattle.port.specs.Bytes.{BitList};
 ghost use Rattle.sequence.specs.Files.{frameSize, framesIn};
 ghost use Rattle.frames.specs.Frames.{newAnswer, lengthsAnswer, threeBitsAnswer, endAnswer, appendAnswer, lastAnswer, appendAfterAnswer, readAnswer};
@@ -49,37 +49,37 @@ fn end(s: &[u8], iv: &[u8], room: usize) -> Answer
     let Answer::Done = t else {
         return t;
     };
-    instance::room(room, FRAME_SIZE, 5)
+    answer::room(room, FRAME_SIZE, 5)
 }
 
 // 3 on key, record and IV.
 fn lengths(key: &[u8], record: &[u8], iv: &[u8]) -> Answer
     ensures { λ r. ⌜ r ≡ lengthsAnswer (now (key .entry)) (now («record» .entry)) (now (iv .entry)) ⌝ }
 {
-    let r = instance::exact(key.len(), 128, 1);
+    let r = answer::exact(key.len(), 128, 1);
     let Answer::Done = r else {
         return r;
     };
-    let s = instance::exact(record.len(), RECORD_BITS, 2);
+    let s = answer::exact(record.len(), RECORD_BITS, 2);
     let Answer::Done = s else {
         return s;
     };
-    instance::exact(iv.len(), 128, 3)
+    answer::exact(iv.len(), 128, 3)
 }
 
 // 4 on them.
 fn three_bits(key: &[u8], record: &[u8], iv: &[u8]) -> Answer
     ensures { λ r. ⌜ r ≡ threeBitsAnswer (now (key .entry)) (now («record» .entry)) (now (iv .entry)) ⌝ }
 {
-    let r = instance::bits(key, 1);
+    let r = answer::bits(key, 1);
     let Answer::Done = r else {
         return r;
     };
-    let s = instance::bits(record, 2);
+    let s = answer::bits(record, 2);
     let Answer::Done = s else {
         return s;
     };
-    instance::bits(iv, 3)
+    answer::bits(iv, 3)
 }
 
 pub(crate) fn append(key: &[u8], record: &[u8], iv: &[u8], file: &[u8], room: usize) -> Answer
@@ -103,7 +103,7 @@ fn last_length(size: usize) -> Answer
     if size == 0 {
         return Answer::Done;
     }
-    instance::exact(size, FRAME_SIZE, 4)
+    answer::exact(size, FRAME_SIZE, 4)
 }
 
 pub(crate) fn append_after(key: &[u8], record: &[u8], iv: &[u8], last: &[u8], room: usize) -> Answer
@@ -142,11 +142,11 @@ fn records_room(room: usize, len: usize) -> Answer
 pub(crate) fn read(key: &[u8], file: &[u8], room: usize) -> Answer
     ensures { λ r. ⌜ r ≡ readAnswer (now (key .entry)) (now (file .entry)) room ⌝ }
 {
-    let r = instance::exact(key.len(), 128, 1);
+    let r = answer::exact(key.len(), 128, 1);
     let Answer::Done = r else {
         return r;
     };
-    let s = instance::bits(key, 1);
+    let s = answer::bits(key, 1);
     let Answer::Done = s else {
         return s;
     };

@@ -11,14 +11,16 @@ use lib.Dec.{ltb}
 use lib.ListN.{length, getD}
 use borrow.Author.Tests.{eq-eqb, eqb-false, ne-eqb, le-ltb, ltb-false, lt-leb}
 use Rattle.answer.specs.declared.Answer.the-variants.{Done}
+use Rattle.answer.specs.Judges.{firstAnswer}
 use Rattle.answer.specs.Bits.{bitsAnswer}
 use Rattle.answer.specs.Choose.{choose}
-use Rattle.answer.proofs.Rows.{both, then-done, refuse-not}
-use Rattle.answer.proofs.Search.{first-none, some-none, none-below, bits-done}
+use Rattle.answer.proofs.Rows.{both, first-done, then-done, refuse-not}
+use Rattle.answer.proofs.Search.{some-none, none-below}
+use Rattle.answer.proofs.Judges.{first-done-at, done-first, done-length, length-done, bits-done}
 use Rattle.instance.specs.Table.{sizesOf, keyBits, rowBits, whiteBits}
-use Rattle.instance.specs.Judging.{outside, numbersAnswer, lengthAnswer, roomAnswer, firstAnswer, pastKey, sameFrom, repeatsInRow, rowsAnswer, isOne, whiteAnswer}
+use Rattle.instance.specs.Judging.{outside, numbersAnswer, pastKey, sameFrom, repeatsInRow, rowsAnswer, isOne, whiteAnswer, wiringLengths, wiringRows}
 use Rattle.instance.specs.Wired.{Wired, Bits}
-use Rattle.instance.proofs.Judged.{first-go, first-done-at, length-done, numbers-done, rows-done, none-one}
+use Rattle.instance.proofs.Judged.{numbers-done, rows-done, none-one}
 
 -- ---- what gives Done
 
@@ -28,18 +30,6 @@ not-outside lo hi x a b = rw (le-ltb x lo a, le-ltb hi x b)
 pub done-numbers : (inst m : ℕ) → 1 ≤ inst → inst ≤ 6 → 1 ≤ m → m ≤ 64 → numbersAnswer inst m ≡ Done
 unfolding numbersAnswer
 done-numbers inst m a b c d = both (refuse-not 1 0 0 (not-outside 1 6 inst a b)) (refuse-not 2 0 0 (not-outside 1 64 m c d))
-
-pub done-length : (l len n : ℕ) → len ≡ n → lengthAnswer l len n ≡ Done
-unfolding lengthAnswer
-done-length l len n e = refuse-not 3 l len (ap not (eq-eqb len n e))
-
-pub done-room : (l len n : ℕ) → n ≤ len → roomAnswer l len n ≡ Done
-unfolding roomAnswer
-done-room l len n h = refuse-not 8 l len (le-ltb len n h)
-
--- a list that fails a test at every place
-pub done-first : (n l : ℕ) (p : ℕ → Bool) (s : List ℕ) → ((k : ℕ) → k < length s → p k ≡ false) → firstAnswer n l p s ≡ Done
-done-first n l p s h = first-go n l p s (length s) (sym (first-none p (length s) h)) (omega arith)
 
 -- ---- rows of n, end to end: place j of row i is i * n + j
 
@@ -113,31 +103,35 @@ module _ (inst m : ℕ) (idx wh : List ℕ) (lent : Wired inst m idx wh) where
   pub wired-numbers : numbersAnswer inst m ≡ Done
   wired-numbers = done-numbers inst m (lent .least) (lent .most) (lent .some) (lent .few)
 
-  pub wired-rows : (l : ℕ) → rowsAnswer l (keyBits inst) (rowBits inst) idx ≡ Done
-  wired-rows l = done-rows l (keyBits inst) (rowBits inst) m idx (lent .indices) (lent .below) (lent .distinct)
+  pub wired-lengths : (l : ℕ) → wiringLengths l inst m (length idx) (length wh) ≡ Done
+  unfolding wiringLengths
+  wired-lengths l = both (done-length l _ _ (lent .indices)) (done-length (l + 1) _ _ (lent .whitening))
 
-  pub wired-whitening : (l : ℕ) → whiteAnswer l inst wh ≡ Done
-  wired-whitening l = done-whitening l inst wh (lent .plain)
+  pub wired-rows : (l : ℕ) → wiringRows l inst idx wh ≡ Done
+  unfolding wiringRows
+  wired-rows l =
+      both (done-rows l (keyBits inst) (rowBits inst) m idx (lent .indices) (lent .below) (lent .distinct))
+      (done-whitening (l + 1) inst wh (lent .plain))
 
--- And nothing else: i is the list of the indices, w that of the whitening.
-pub done-wired : (inst m : ℕ) (idx wh : List ℕ) (i w : ℕ) → numbersAnswer inst m ≡ Done
-    → lengthAnswer i (length idx) (m * rowBits inst) ≡ Done → lengthAnswer w (length wh) (whiteBits inst m) ≡ Done
-    → bitsAnswer w wh ≡ Done → rowsAnswer i (keyBits inst) (rowBits inst) idx ≡ Done → whiteAnswer w inst wh ≡ Done → Wired inst m idx wh
-done-wired inst m idx wh i w n e f b r p =
+-- And nothing else.
+pub done-wired : (l inst m : ℕ) (idx wh : List ℕ) → numbersAnswer inst m ≡ Done
+    → wiringLengths l inst m (length idx) (length wh) ≡ Done → bitsAnswer (l + 1) wh ≡ Done → wiringRows l inst idx wh ≡ Done → Wired inst m idx wh
+unfolding wiringLengths wiringRows
+done-wired l inst m idx wh n e b r =
     let k = numbers-done inst m n in
-    let size = length-done i _ _ e in
-    let bit = bits-done w wh b in
+    let size = length-done l _ _ (first-done _ _ e) in
+    let bit = bits-done (l + 1) wh b in
     record {
       least = k .0 .0;
       most = k .0 .1;
       some = k .1 .0;
       few = k .1 .1;
       indices = size;
-      whitening = length-done w _ _ f;
+      whitening = length-done (l + 1) _ _ (then-done _ _ e);
       whiteBit = bit;
-      below = rows-done i _ _ idx r;
-      distinct = rows-apart i (keyBits inst) (rowBits inst) m idx size r;
-      plain = whitening-plain w inst wh p bit;
+      below = rows-done l _ _ idx (first-done _ _ r);
+      distinct = rows-apart l (keyBits inst) (rowBits inst) m idx size (first-done _ _ r);
+      plain = whitening-plain (l + 1) inst wh (then-done _ _ r) bit;
     }
 
 -- Kreyvium's: no index, and 128 IV bits

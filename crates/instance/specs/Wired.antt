@@ -1,4 +1,4 @@
--- What docs/RULES.md, "Rows", lets a caller lend: the wiring of a record of m bits, a key and a record.
+-- What docs/RULES.md, "Rows", lets a caller lend: the wiring of a record of m bits, and a record.
 use Prim.Native.Nat.{ℕ, _+_, _*_, _<_, _≤_}
 use mathlib.Core.Path.{_≡_}
 use mathlib.Core.List.{List}
@@ -24,7 +24,3 @@ pub record Wired (inst m : ℕ) (idx wh : List ℕ) : Type 0 where
 pub record Bits (n : ℕ) (s : List ℕ) : Type 0 where
   pub size : length s ≡ n
   pub bit : (k : ℕ) → k < length s → getD s k 0 ≤ 1
-
--- a key has N
-abbrev pub Keyed : ℕ → List ℕ → Type 0
-Keyed inst key = Bits (keyBits inst) key

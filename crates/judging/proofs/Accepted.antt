@@ -9,13 +9,14 @@ use Rattle.answer.specs.Answers.{_▹_, refuse}
 use Rattle.answer.specs.First.{firstFrom}
 use Rattle.answer.specs.Bits.{bitsAnswer}
 use Rattle.answer.proofs.Rows.{both, first-done, then-done, one-of, two-of, three-of}
-use Rattle.answer.proofs.Search.{bits-done, done-bits}
 use Rattle.instance.specs.Table.{sizesOf, keyBits}
-use Rattle.instance.specs.Judging.{numbersAnswer, lengthAnswer, firstAnswer, rowsAnswer, whiteAnswer, roomAnswer}
-use Rattle.instance.specs.Wired.{Wired, Bits, Keyed}
-use Rattle.instance.proofs.Judged.{length-done, room-done}
-use Rattle.instance.proofs.Accepted.{done-length, done-room, wired-numbers, wired-rows, wired-whitening, done-wired}
-use Rattle.judging.specs.Judging.{wiringLengths, wiringAnswer, keystreamAnswer, encipherAnswer}
+use Rattle.instance.specs.Judging.{numbersAnswer, rowsAnswer, whiteAnswer, wiringLengths}
+use Rattle.answer.specs.Judges.{lengthAnswer, firstAnswer, roomAnswer}
+use Rattle.instance.specs.Wired.{Wired, Bits}
+use Rattle.instance.specs.Keys.{Keyed}
+use Rattle.answer.proofs.Judges.{length-done, room-done, done-length, done-room, bits-done, done-bits}
+use Rattle.instance.proofs.Accepted.{wired-numbers, wired-rows, wired-whitening, done-wired}
+use Rattle.judging.specs.Judging.{wiringAnswer, keystreamAnswer, encipherAnswer}
 
 -- 5, 6, 7 and 8 on a wiring and the room for m bits
 wiring-accepted : (l inst m : ℕ) (idx wh : List ℕ) (n : ℕ) → Wired inst m idx wh → m ≤ n → wiringAnswer l inst m idx wh n ≡ Done

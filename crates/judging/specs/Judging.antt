@@ -6,7 +6,8 @@ use Rattle.answer.specs.declared.Answer.{Answer}
 use Rattle.answer.specs.Answers.{_▹_}
 use Rattle.answer.specs.Bits.{bitsAnswer}
 use Rattle.instance.specs.Table.{keyBits, rowBits, whiteBits}
-use Rattle.instance.specs.Judging.{numbersAnswer, lengthAnswer, rowsAnswer, whiteAnswer, roomAnswer}
+use Rattle.instance.specs.Judging.{numbersAnswer, rowsAnswer, whiteAnswer}
+use Rattle.answer.specs.Judges.{lengthAnswer, roomAnswer}
 
 -- 3 on the indices, which are list l, and on the whitening or IV after them
 unfoldable pub wiringLengths : ℕ → ℕ → ℕ → ℕ → ℕ → Answer

@@ -6,8 +6,9 @@ ghost use Prim.Native.Nat.{_≤_};
 ghost use Rattle.answer.specs.Answers.{_▹_};
 ghost use Rattle.answer.specs.Bits.{bitsAnswer};
 ghost use Rattle.instance.specs.Table.{keyBits};
-ghost use Rattle.instance.specs.Judging.{lengthAnswer};
-ghost use Rattle.judging.specs.Judging.{wiringLengths, wiringAnswer, keystreamAnswer, encipherAnswer};
+ghost use Rattle.answer.specs.Judges.{lengthAnswer};
+ghost use Rattle.judging.specs.Judging.{wiringAnswer, keystreamAnswer, encipherAnswer};
+ghost use Rattle.instance.specs.Judging.{wiringLengths};
 
 // 3 on the indices and on the whitening or IV, of which there are so many.
 fn wiring_lengths(instance: u32, m: u32, indices: usize, whitening: usize, list: u32) -> Answer
@@ -15,11 +16,11 @@ fn wiring_lengths(instance: u32, m: u32, indices: usize, whitening: usize, list:
     ensures { λ r. ⌜ r ≡ wiringLengths list instance m indices whitening ⌝ }
 {
     let row = instance::row_bits(instance);
-    let r = instance::exact(indices, (m as usize) * row, list);
+    let r = answer::exact(indices, (m as usize) * row, list);
     let Answer::Done = r else {
         return r;
     };
-    instance::exact(whitening, instance::whitening_bits(instance, m), list + 1)
+    answer::exact(whitening, instance::whitening_bits(instance, m), list + 1)
 }
 
 // 5, 6 and 7, and 8 on the result, for which room places are lent.
@@ -43,7 +44,7 @@ fn wiring(
     let Answer::Done = s else {
         return s;
     };
-    instance::room(room, m as usize, list + 2)
+    answer::room(room, m as usize, list + 2)
 }
 
 // What keystream is lent; room places for the result.
@@ -76,7 +77,7 @@ fn key_lengths(instance: u32, m: u32, key: usize, indices: usize, whitening: usi
     ensures { λ r. ⌜ r ≡ lengthAnswer 1 key (keyBits instance) ▹ wiringLengths 2 instance m indices whitening ⌝ }
 {
     let sizes = instance::sizes_of(instance);
-    let r = instance::exact(key, sizes.key, 1);
+    let r = answer::exact(key, sizes.key, 1);
     let Answer::Done = r else {
         return r;
     };
@@ -86,11 +87,11 @@ fn key_lengths(instance: u32, m: u32, key: usize, indices: usize, whitening: usi
 fn key_bits(key: &[u8], whitening: &[u8]) -> Answer
     ensures { λ r. ⌜ r ≡ bitsAnswer 1 (now (key .entry)) ▹ bitsAnswer 3 (now (whitening .entry)) ⌝ }
 {
-    let r = instance::bits(key, 1);
+    let r = answer::bits(key, 1);
     let Answer::Done = r else {
         return r;
     };
-    instance::bits(whitening, 3)
+    answer::bits(whitening, 3)
 }
 
 // What encipher and decipher are lent.
@@ -150,7 +151,7 @@ pub fn kreyvium(
     let Answer::Done = t else {
         return t;
     };
-    instance::room(room, m as usize, 5)
+    answer::room(room, m as usize, 5)
 }
 
 fn record_lengths(
@@ -164,11 +165,11 @@ fn record_lengths(
     ensures { λ r. ⌜ r ≡ lengthAnswer 1 key (keyBits instance) ▹ lengthAnswer 2 «record» m ▹ wiringLengths 3 instance m indices whitening ⌝ }
 {
     let sizes = instance::sizes_of(instance);
-    let r = instance::exact(key, sizes.key, 1);
+    let r = answer::exact(key, sizes.key, 1);
     let Answer::Done = r else {
         return r;
     };
-    let s = instance::exact(record, m as usize, 2);
+    let s = answer::exact(record, m as usize, 2);
     let Answer::Done = s else {
         return s;
     };
@@ -178,13 +179,13 @@ fn record_lengths(
 fn record_bits(key: &[u8], record: &[u8], whitening: &[u8]) -> Answer
     ensures { λ r. ⌜ r ≡ bitsAnswer 1 (now (key .entry)) ▹ bitsAnswer 2 (now («record» .entry)) ▹ bitsAnswer 4 (now (whitening .entry)) ⌝ }
 {
-    let r = instance::bits(key, 1);
+    let r = answer::bits(key, 1);
     let Answer::Done = r else {
         return r;
     };
-    let s = instance::bits(record, 2);
+    let s = answer::bits(record, 2);
     let Answer::Done = s else {
         return s;
     };
-    instance::bits(whitening, 4)
+    answer::bits(whitening, 4)
 }

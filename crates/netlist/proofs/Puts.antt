@@ -8,10 +8,11 @@ use native.Mathlib.Nat.{zero-add}
 use lib.ListN.{length, getD, set, drop, length-append, drop-of-length-le}
 use lib.Seq.{sets, set-set, set-comm, length-sets, drop-cons, sets-eq}
 use Rattle.answer.specs.Fronts.{over}
+use Rattle.netlist.specs.declared.counts.Counts.{Counts}
 use Rattle.netlist.specs.declared.gate.Gate.{Gate}
 use Rattle.netlist.specs.Gates.{gateWords}
 use Rattle.netlist.specs.Net.{Net}
-use Rattle.netlist.specs.Words.{gatesWords, words}
+use Rattle.netlist.specs.Words.{headerWords, gatePlace, header, wordCount, gatesWords, netCounts, words}
 use Rattle.netlist.proofs.Gates.{gateWords-length}
 use Rattle.netlist.proofs.Words.{gatesWords-length}
 use Rattle.netlist.specs.Put.{putGates}
@@ -97,19 +98,19 @@ words-put (g ∷ gs) out ws at =
     ∙ words-put gs (sets out at (gateWords g)) ws (at + 4)
     ∙ ap (λ (n : ℕ). sets (putGates (sets out at (gateWords g)) (at + 4) gs) n ws) e
 
-pub words-length : (n : Net) → length (words n) ≡ 3 + 4 * length (n .gates) + length (n .outs)
+pub words-length : (n : Net) → length (words n) ≡ wordCount (netCounts n)
 words-length n = omega (arith, length-append (gatesWords (n .gates)) (n .outs), gatesWords-length (n .gates))
 
 -- stored one after the other they are the netlist's words, written over what was lent
-pub net-put : (n : Net) (out o₁ o₂ o₃ : List ℕ) (i g o at : ℕ) → i ≡ n .inputs → g ≡ length (n .gates) → o ≡ length (n .outs)
-    → at ≡ 3 + 4 * length (n .gates) → length (words n) ≤ length out
-    → o₁ ≡ sets out 0 (i ∷ g ∷ o ∷ []) → o₂ ≡ putGates o₁ 3 (n .gates) → o₃ ≡ sets o₂ at (n .outs) → o₃ ≡ over (words n) out
+pub net-put : (n : Net) (out o₁ o₂ o₃ : List ℕ) (c : Counts) (at : ℕ) → c ≡ netCounts n
+    → at ≡ gatePlace (length (n .gates)) → length (words n) ≤ length out
+    → o₁ ≡ sets out 0 (header c) → o₂ ≡ putGates o₁ headerWords (n .gates) → o₃ ≡ sets o₂ at (n .outs) → o₃ ≡ over (words n) out
 unfolding over
-net-put n out o₁ o₂ o₃ i g o at ei eg eo ea room e₁ e₂ e₃ =
+net-put n out o₁ o₂ o₃ c at ec ea room e₁ e₂ e₃ =
     e₃
     ∙ (λ k. sets (e₂ k) (ea k) (n .outs))
-    ∙ (λ k. sets (putGates (e₁ k) 3 (n .gates)) (3 + 4 * length (n .gates)) (n .outs))
-    ∙ (λ k. sets (putGates (sets out 0 (ei k ∷ eg k ∷ eo k ∷ [])) 3 (n .gates)) (3 + 4 * length (n .gates)) (n .outs))
-    ∙ sym (words-put (n .gates) (sets out 0 (n .inputs ∷ length (n .gates) ∷ length (n .outs) ∷ [])) (n .outs) 3)
+    ∙ (λ k. sets (putGates (e₁ k) headerWords (n .gates)) (gatePlace (length (n .gates))) (n .outs))
+    ∙ (λ k. sets (putGates (sets out 0 (header (ec k))) headerWords (n .gates)) (gatePlace (length (n .gates))) (n .outs))
+    ∙ sym (words-put (n .gates) (sets out 0 (header (netCounts n))) (n .outs) headerWords)
     ∙ sets-eq (words n) out 0 (omega arith)
     ∙ ap (λ (k : ℕ). words n ++ drop k out) (zero-add (length (words n)))

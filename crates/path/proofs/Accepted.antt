@@ -11,8 +11,7 @@ use Rattle.netlist.specs.Check.{gateLimit}
 use Rattle.netlist.specs.Sound.{Sound}
 use Rattle.netlist.proofs.Accepted.{done-sound}
 use Rattle.instance.specs.Table.{keyBits}
-use Rattle.instance.proofs.Judged.{room-done}
-use Rattle.instance.proofs.Accepted.{done-room}
+use Rattle.answer.proofs.Judges.{room-done, done-room}
 use Rattle.judging.specs.Judging.{encipherAnswer}
 use Rattle.judging.specs.Judging as judging
 use Rattle.cipher.proofs.Accepted.{encipher-lent}

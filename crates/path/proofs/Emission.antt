@@ -7,7 +7,7 @@ use native.Mathlib.Omega.{arith}
 use lib.ListN.{length, getD, replicate}
 use lib.Seq.{ext-getD}
 use Rattle.answer.specs.Bits.{added}
-use Rattle.answer.proofs.Search.{bits-within}
+use Rattle.answer.proofs.Judges.{bits-within}
 use Rattle.answer.proofs.Added.{added-length, added-at}
 use Rattle.netlist.specs.Net.{Net, eval, depth, mults, depAlg, outsOf}
 use Rattle.netlist.specs.Words.{inputsOf, outputsOf, words}

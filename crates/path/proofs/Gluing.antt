@@ -14,7 +14,7 @@ use Rattle.netlist.specs.Glue.{glue, upFrom, pass}
 use Rattle.netlist.specs.Check.{gateLimit, outputLimit, netAnswer}
 use Rattle.netlist.specs.Sound.{Sound}
 use Rattle.netlist.proofs.Accepted.{sound-done}
-use Rattle.answer.proofs.Search.{bits-within}
+use Rattle.answer.proofs.Judges.{bits-within}
 use Rattle.netlist.proofs.Bits.{run-bits}
 use Rattle.netlist.proofs.Glued.{glue-gates, glue-outputs, glue-valid, glue-eval, glue-depth, glue-mults, glue-glue, pass-valid, pass-glue, glue-pass, upFrom-length, getD-map-lt}
 use Rattle.netlist.proofs.Words.{gates-length, outs-length, sound-valid, words-netOf, netOf-words, valid-sound}

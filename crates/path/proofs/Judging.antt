@@ -14,10 +14,10 @@ use Rattle.answer.proofs.Rows.{first-done, then-done, both, pass, stop}
 use Rattle.netlist.specs.Words.{inputsOf, gatesOf, outputsOf}
 use Rattle.netlist.specs.Check.{gateLimit, netAnswer}
 use Rattle.instance.specs.Table.{keyBits, rowBits}
-use Rattle.instance.specs.Judging.{lengthAnswer, rowsAnswer, whiteAnswer, roomAnswer}
-use Rattle.instance.proofs.Judged.{length-done}
-use Rattle.instance.proofs.Accepted.{done-length, done-room}
-use Rattle.judging.specs.Judging.{wiringLengths, encipherAnswer}
+use Rattle.instance.specs.Judging.{rowsAnswer, whiteAnswer, wiringLengths}
+use Rattle.answer.specs.Judges.{lengthAnswer, roomAnswer}
+use Rattle.answer.proofs.Judges.{length-done, done-length, done-room}
+use Rattle.judging.specs.Judging.{encipherAnswer}
 use Rattle.judging.specs.Judging as judging
 use Rattle.emit.specs.Emit.{wiringAnswer}
 use Rattle.path.specs.declared.Rooms.{Rooms}

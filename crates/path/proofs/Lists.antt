@@ -10,7 +10,8 @@ use Rattle.answer.specs.Answers.{_▹_, refuse}
 use Rattle.answer.specs.Bits.{bitsAnswer}
 use Rattle.answer.specs.Choose.{choose}
 use Rattle.instance.specs.Table.{keyBits, rowBits}
-use Rattle.instance.specs.Judging.{firstAnswer, rowsAnswer, whiteAnswer}
+use Rattle.instance.specs.Judging.{rowsAnswer, whiteAnswer}
+use Rattle.answer.specs.Judges.{firstAnswer}
 use Rattle.path.specs.Steps.{renamedTo}
 
 module _ (from to : ℕ) where

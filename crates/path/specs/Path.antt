@@ -13,7 +13,7 @@ use Rattle.netlist.specs.Net.{values, eval}
 use Rattle.netlist.specs.Words.{inputsOf, gatesOf, outputsOf, words, netOf}
 use Rattle.netlist.specs.Check.{gateLimit, netAnswer}
 use Rattle.instance.specs.Table.{keyBits}
-use Rattle.instance.specs.Judging.{roomAnswer}
+use Rattle.answer.specs.Judges.{roomAnswer}
 use Rattle.judging.specs.Judging.{encipherAnswer}
 use Rattle.cipher.specs.Cipher.{encipherOf}
 use Rattle.glue.specs.Glue.{gluedSize, gluedWords}

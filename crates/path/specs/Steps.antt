@@ -11,8 +11,8 @@ use Rattle.answer.specs.Choose.{choose}
 use Rattle.netlist.specs.Words.{inputsOf, gatesOf, outputsOf, gatePlace}
 use Rattle.netlist.specs.Check.{gateLimit, netAnswer}
 use Rattle.instance.specs.Table.{keyBits}
-use Rattle.instance.specs.Judging.{numbersAnswer, lengthAnswer}
-use Rattle.judging.specs.Judging.{wiringLengths}
+use Rattle.instance.specs.Judging.{numbersAnswer, wiringLengths}
+use Rattle.answer.specs.Judges.{lengthAnswer}
 use Rattle.path.specs.declared.Rooms.{Rooms}
 use Rattle.path.specs.Path.{roomsAnswer}
 

@@ -15,7 +15,7 @@ ghost use Rattle.answer.specs.Answers.{_▹_, refuse};
 ghost use Rattle.answer.specs.Bits.{bitsAnswer};
 ghost use Rattle.netlist.specs.Words.{gatesOf};
 ghost use Rattle.netlist.specs.Check.{gateLimit};
-ghost use Rattle.instance.specs.Judging.{roomAnswer};
+ghost use Rattle.answer.specs.Judges.{roomAnswer};
 ghost use Rattle.path.specs.Path.{scoreAnswer};
 ghost use Rattle.path.specs.Steps.{renamedTo, sizesAnswer, resultsAnswer};
 
@@ -59,11 +59,11 @@ fn sizes(
     ensures { λ r. ⌜ r ≡ sizesAnswer instance m key «record» indices whitening ⌝ }
 {
     let sizes = instance::sizes_of(instance);
-    let k = instance::exact(key, sizes.key, 1);
-    let r = instance::exact(record, m as usize, 2);
+    let k = answer::exact(key, sizes.key, 1);
+    let r = answer::exact(record, m as usize, 2);
     let row = instance::row_bits(instance);
-    let i = instance::exact(indices, (m as usize) * row, 3);
-    let w = instance::exact(whitening, instance::whitening_bits(instance, m), 4);
+    let i = answer::exact(indices, (m as usize) * row, 3);
+    let w = answer::exact(whitening, instance::whitening_bits(instance, m), 4);
     let lengths = first(k, first(r, first(i, w)));
     first(instance::numbers(instance, m), lengths)
 }
@@ -72,8 +72,8 @@ fn sizes(
 fn bits(key: &[u8], record: &[u8]) -> Answer
     ensures { λ r. ⌜ r ≡ bitsAnswer 1 (now (key .entry)) ▹ bitsAnswer 2 (now («record» .entry)) ⌝ }
 {
-    let k = instance::bits(key, 1);
-    let r = instance::bits(record, 2);
+    let k = answer::bits(key, 1);
+    let r = answer::bits(record, 2);
     first(k, r)
 }
 
@@ -81,12 +81,12 @@ fn bits(key: &[u8], record: &[u8]) -> Answer
 fn room(lent: Rooms, needed: Rooms) -> Answer
     ensures { λ r. ⌜ r ≡ roomAnswer 6 (lent .enciphered) (needed .enciphered) ▹ roomAnswer 7 (lent .deciphering) (needed .deciphering) ▹ roomAnswer 8 (lent .glued) (needed .glued) ▹ roomAnswer 9 (lent .inputs) (needed .inputs) ▹ roomAnswer 10 (lent .wires) (needed .wires) ▹ roomAnswer 11 (lent .scores) (needed .scores) ⌝ }
 {
-    let e = instance::room(lent.enciphered, needed.enciphered, 6);
-    let d = instance::room(lent.deciphering, needed.deciphering, 7);
-    let g = instance::room(lent.glued, needed.glued, 8);
-    let i = instance::room(lent.inputs, needed.inputs, 9);
-    let w = instance::room(lent.wires, needed.wires, 10);
-    let s = instance::room(lent.scores, needed.scores, 11);
+    let e = answer::room(lent.enciphered, needed.enciphered, 6);
+    let d = answer::room(lent.deciphering, needed.deciphering, 7);
+    let g = answer::room(lent.glued, needed.glued, 8);
+    let i = answer::room(lent.inputs, needed.inputs, 9);
+    let w = answer::room(lent.wires, needed.wires, 10);
+    let s = answer::room(lent.scores, needed.scores, 11);
     first(e, first(d, first(g, first(i, first(w, s)))))
 }
 

@@ -18,10 +18,9 @@ use Rattle.answer.specs.declared.Answer.the-variants.{Done, Refused}
 use Rattle.answer.specs.Choose.{choose}
 use Rattle.answer.specs.Fronts.{over, left}
 use Rattle.answer.proofs.Rows.{first-done, then-done, both, refuse-not}
-use Rattle.answer.proofs.Search.{bits-within, bits-done, done-bits}
 use Rattle.answer.proofs.Over.{length-over, take-over}
-use Rattle.instance.specs.Judging.{lengthAnswer}
-use Rattle.instance.proofs.Judged.{length-done}
+use Rattle.answer.specs.Judges.{lengthAnswer}
+use Rattle.answer.proofs.Judges.{length-done, bits-within, bits-done, done-bits}
 use Rattle.filter.specs.Filter.{tab}
 use Rattle.filter.proofs.Tab.{tab-length, tab-at}
 use Rattle.port.specs.declared.Port.{Port}

@@ -10,7 +10,7 @@ use Rattle.answer.specs.Answers.{_▹_}
 use Rattle.answer.specs.Bits.{bitsAnswer}
 use Rattle.answer.specs.Choose.{choose}
 use Rattle.answer.specs.Fronts.{left}
-use Rattle.instance.specs.Judging.{lengthAnswer, roomAnswer}
+use Rattle.answer.specs.Judges.{lengthAnswer, roomAnswer}
 use Rattle.port.specs.declared.Port.{Port}
 use Rattle.port.specs.declared.Made.{Made}
 use Rattle.port.specs.declared.Made.the-variants as made

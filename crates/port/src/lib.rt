@@ -130,11 +130,11 @@ fn put_number(x: u32, n: usize, out: &mut [u8])
 fn judge(s: &[u8]) -> Answer
     ensures { λ r. ⌜ r ≡ fieldsAnswer (now (s .entry)) ⌝ }
 {
-    let r = instance::exact(s.len(), RECORD_BITS, 1);
+    let r = answer::exact(s.len(), RECORD_BITS, 1);
     let Answer::Done = r else {
         return r;
     };
-    instance::bits(s, 1)
+    answer::bits(s, 1)
 }
 
 // The fields that 64 bits hold.
@@ -177,7 +177,7 @@ fn put_fields(port: Port, out: &mut [u8])
 pub fn bits(port: Port, result: &mut [u8]) -> Answer
     ensures { λ r. ⌜ BitsWritten port (now (result .entry)) r (now (result .exit)) ⌝ }
 {
-    let r = instance::room(result.len(), RECORD_BITS, 1);
+    let r = answer::room(result.len(), RECORD_BITS, 1);
     let Answer::Done = r else {
         return r;
     };

@@ -6,7 +6,7 @@ use lib.ListN.{length}
 use Rattle.answer.specs.declared.Answer.{Answer}
 use Rattle.answer.specs.Answers.{numberOf, listOf, placeOf}
 use Rattle.answer.specs.Fronts.{left}
-use Rattle.instance.specs.Judging.{roomAnswer}
+use Rattle.answer.specs.Judges.{roomAnswer}
 use Rattle.evaluate.specs.Evaluate.{Evaluated}
 use Rattle.meter.specs.declared.Level.{Level}
 use Rattle.meter.specs.declared.Metered.{Metered}

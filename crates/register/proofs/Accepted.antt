@@ -6,11 +6,11 @@ use native.Mathlib.Omega.{arith}
 use lib.ListN.{length}
 use Rattle.answer.specs.declared.Answer.the-variants.{Done}
 use Rattle.answer.proofs.Rows.{both, first-done, then-done, one-of, two-of, three-of}
-use Rattle.answer.proofs.Search.{bits-done, done-bits}
 use Rattle.netlist.specs.Words.{words}
 use Rattle.instance.specs.Wired.{Bits}
-use Rattle.instance.proofs.Judged.{numbers-done, length-done, room-done}
-use Rattle.instance.proofs.Accepted.{done-numbers, done-length, done-room}
+use Rattle.instance.proofs.Judged.{numbers-done}
+use Rattle.answer.proofs.Judges.{length-done, room-done, done-length, done-room, bits-done, done-bits}
+use Rattle.instance.proofs.Accepted.{done-numbers}
 use Rattle.rounds.specs.Gates.{kreyviumNet}
 use Rattle.register.specs.Judging.{ivAnswer, emitKreyviumAnswer}
 

@@ -6,7 +6,8 @@ use Rattle.answer.specs.declared.Answer.{Answer}
 use Rattle.answer.specs.Answers.{_▹_}
 use Rattle.answer.specs.Bits.{bitsAnswer}
 use Rattle.netlist.specs.Words.{words}
-use Rattle.instance.specs.Judging.{numbersAnswer, lengthAnswer, roomAnswer}
+use Rattle.instance.specs.Judging.{numbersAnswer}
+use Rattle.answer.specs.Judges.{lengthAnswer, roomAnswer}
 use Rattle.rounds.specs.Gates.{kreyviumNet}
 
 -- lists: IV, result. 2, and 3 and 4 on the IV

@@ -18,11 +18,11 @@ fn judge_iv(m: u32, iv: &[u8]) -> Answer
     let Answer::Done = r else {
         return r;
     };
-    let s = instance::exact(iv.len(), 128, 1);
+    let s = answer::exact(iv.len(), 128, 1);
     let Answer::Done = s else {
         return s;
     };
-    instance::bits(iv, 1)
+    answer::bits(iv, 1)
 }
 
 // The netlist for a record of m bits under an IV.
@@ -33,7 +33,7 @@ pub fn emit_kreyvium(m: u32, iv: &[u8], result: &mut [u32]) -> Answer
     let Answer::Done = r else {
         return r;
     };
-    let s = instance::room(result.len(), 64523 + 69 * (m as usize), 2);
+    let s = answer::room(result.len(), 64523 + 69 * (m as usize), 2);
     let Answer::Done = s else {
         return s;
     };

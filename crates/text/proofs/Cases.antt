@@ -17,7 +17,7 @@ use Rattle.netlist.specs.Net.{depth, mults}
 use Rattle.netlist.specs.Words.{inputsOf, gatesOf, words}
 use Rattle.netlist.specs.Emitted.{Emitted}
 use Rattle.netlist.proofs.Puts.{words-length}
-use Rattle.instance.specs.Judging.{roomAnswer}
+use Rattle.answer.specs.Judges.{roomAnswer}
 use Rattle.cells.specs.Cells.{thresholdNet}
 use Rattle.cells.proofs.Facts.{threshold-outputs}
 use Rattle.emit.specs.Emit.{noThreshold, thresholdAnswer}

@@ -11,7 +11,7 @@ use Rattle.netlist.specs.declared.gate.Gate.{Gate}
 use Rattle.netlist.specs.declared.gate.Gate.the-variants.{Zero, One, Not, Xor, And, Mux}
 use Rattle.netlist.specs.Net.{Net, depth, mults}
 use Rattle.netlist.specs.Words.{inputsOf, gatesOf, outputsOf, gatePlace, gatesAt}
-use Rattle.instance.specs.Judging.{roomAnswer}
+use Rattle.answer.specs.Judges.{roomAnswer}
 use Rattle.cells.specs.Cells.{thresholdNet}
 use Rattle.emit.specs.Emit.{noThreshold}
 use Rattle.line.specs.declared.Asked.{Asked}

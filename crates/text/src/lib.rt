@@ -37,7 +37,7 @@ fn keep(text: &[u8], size: usize, result: &mut [u8]) -> Printing
     requires { ⌜ size ≤ length (now text) ⌝ }
     ensures { λ r. ⌜ Kept (take size (now (text .entry))) (now (result .entry)) r (now (result .exit)) ⌝ }
 {
-    let r = instance::room(result.len(), size, 2);
+    let r = answer::room(result.len(), size, 2);
     let Answer::Done = r else {
         return Printing { answer: r, size: 0 };
     };

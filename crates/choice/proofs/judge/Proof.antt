@@ -8,8 +8,8 @@ use Rattle.answer.specs.declared.Answer.{Answer}
 use Rattle.answer.specs.Answers.{_▹_}
 use Rattle.answer.proofs.Rows.{stop, go, refuse-yes}
 use Rattle.instance.specs.declared.Sizes.{Sizes}
-use Rattle.instance.specs.Judging.{lengthAnswer, roomAnswer, firstAnswer}
-use Rattle.instance.proofs.Judged.{first-stop, first-go}
+use Rattle.answer.specs.Judges.{lengthAnswer, roomAnswer, firstAnswer}
+use Rattle.answer.proofs.Judges.{first-stop, first-go}
 use Rattle.choice.specs.Choice.{pastDraw, chooseAnswer}
 use Rattle.choice.proofs.Accepted.{by-sizes, few}
 use borrow.Author.Needs.{needs}

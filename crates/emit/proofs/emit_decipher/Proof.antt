@@ -4,8 +4,8 @@ use lib.ListN.{length}
 use Rattle.answer.specs.declared.Answer.the-variants.{Done}
 use Rattle.answer.proofs.Over.{kept}
 use Rattle.netlist.specs.Words.{words}
-use Rattle.instance.specs.Judging.{roomAnswer}
-use Rattle.instance.proofs.Judged.{room-done}
+use Rattle.answer.specs.Judges.{roomAnswer}
+use Rattle.answer.proofs.Judges.{room-done}
 use Rattle.emit.specs.Emit.{wiringAnswer, decipherNet}
 use Rattle.emit.proofs.Accepted.{wiring-lent, refused-early, judged, size-answer, size-counts}
 use borrow.Author.Needs.{needs}

@@ -1,7 +1,7 @@
 use mathlib.Core.Path.{_≡_, ap, _∙_}
 use Rattle.instance.specs.declared.Sizes.{Sizes}
 use Rattle.instance.specs.Table.{keyBits}
-use Rattle.instance.specs.Judging.{lengthAnswer}
+use Rattle.answer.specs.Judges.{lengthAnswer}
 use Rattle.answer.proofs.Rows.{stop, go}
 use borrow.Author.Needs.{needs}
 use Rattle.judging.proofs.record_lengths.Statement.{statement}

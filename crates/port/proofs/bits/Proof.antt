@@ -1,6 +1,6 @@
 use mathlib.Core.Path.{refl, sym, _∙_}
 use Rattle.answer.proofs.Over.{made, kept}
-use Rattle.instance.proofs.Judged.{room-done}
+use Rattle.answer.proofs.Judges.{room-done}
 use borrow.Author.Needs.{needs}
 use Rattle.port.proofs.bits.Statement.{statement}
 use Rattle.port.proofs.bits.Tie as tie

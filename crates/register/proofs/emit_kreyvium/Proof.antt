@@ -5,8 +5,8 @@ use Rattle.answer.specs.declared.Answer.the-variants.{Done}
 use Rattle.answer.proofs.Rows.{stop, pass}
 use Rattle.answer.proofs.Over.{kept, made}
 use Rattle.netlist.specs.Words.{words}
-use Rattle.instance.specs.Judging.{roomAnswer}
-use Rattle.instance.proofs.Judged.{room-done}
+use Rattle.answer.specs.Judges.{roomAnswer}
+use Rattle.answer.proofs.Judges.{room-done}
 use Rattle.rounds.specs.Gates.{kreyviumNet}
 use Rattle.register.specs.Judging.{ivAnswer, emitKreyviumAnswer}
 use Rattle.register.proofs.Words.{kreyvium-length}

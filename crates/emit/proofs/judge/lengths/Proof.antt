@@ -3,7 +3,7 @@ use mathlib.Core.Path.{_≡_, ap, _∙_}
 use native.Mathlib.Omega.{arith}
 use Rattle.answer.proofs.Rows.{stop, go}
 use Rattle.instance.specs.Table.{rowBits}
-use Rattle.instance.specs.Judging.{lengthAnswer}
+use Rattle.answer.specs.Judges.{lengthAnswer}
 use Rattle.instance.proofs.Judged.{below}
 use borrow.Author.Needs.{needs}
 use Rattle.emit.proofs.judge.lengths.Statement.{statement}

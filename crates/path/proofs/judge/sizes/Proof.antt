@@ -3,9 +3,9 @@ use mathlib.Core.Path.{ap, ap₂, _∙_}
 use native.Mathlib.Omega.{arith}
 use Rattle.answer.specs.Answers.{_▹_}
 use Rattle.instance.specs.declared.Sizes.{Sizes}
-use Rattle.instance.specs.Judging.{lengthAnswer}
+use Rattle.answer.specs.Judges.{lengthAnswer}
 use Rattle.instance.proofs.Judged.{below}
-use Rattle.judging.specs.Judging.{wiringLengths}
+use Rattle.instance.specs.Judging.{wiringLengths}
 use Rattle.path.specs.Steps.{sizesAnswer}
 use borrow.Author.Needs.{needs}
 use Rattle.path.proofs.judge.sizes.Statement.{statement}

@@ -1,14 +1,14 @@
 use Prim.Native.Nat.{_+_, ℕ, _*_}
 use mathlib.Core.Path.{_≡_, ap, _∙_}
 use Rattle.instance.specs.Table.{rowBits}
 use native.Mathlib.Omega.{arith}
 use Rattle.answer.proofs.Rows.{stop, go}
-use Rattle.instance.specs.Judging.{lengthAnswer}
+use Rattle.answer.specs.Judges.{lengthAnswer}
 use Rattle.instance.proofs.Judged.{below}
-use Rattle.judging.specs.Judging.{wiringLengths}
+use Rattle.instance.specs.Judging.{wiringLengths}
 use borrow.Author.Needs.{needs}
-use Rattle.judging.proofs.wiring_lengths.Statement.{statement}
-use Rattle.judging.proofs.wiring_lengths.Tie as tie
+use Rattle.instance.proofs.wiring_lengths.Statement.{statement}
+use Rattle.instance.proofs.wiring_lengths.Tie as tie
 
 -- the indices are judged by the table's row
 indices-are : (c : tie.After-exact) →
