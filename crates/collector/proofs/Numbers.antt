@@ -10,7 +10,8 @@ use Rattle.answer.specs.Answers.{_▹_, refuse}
 use Rattle.answer.specs.Bits.{bitsAnswer}
 use Rattle.answer.specs.Fronts.{left}
 use Rattle.answer.proofs.Every.{row-has, refuse-has, each-has}
-use Rattle.answer.specs.Judges.{lengthAnswer, roomAnswer}
+use Rattle.answer.specs.Judges.{lengthAnswer, firstAnswer, roomAnswer}
+use Rattle.instance.specs.Keys.{keyLengthAnswer, keyBitsAnswer}
 use Rattle.daemon.specs.Packed.{packedOf, Small}
 use Rattle.sequence.specs.Files.{framesIn, frameAnswer, fileAnswer}
 use Rattle.frames.specs.Frames.{newAnswer, lengthsAnswer, threeBitsAnswer, endAnswer, appendAnswer, lastAnswer, appendAfterAnswer, readAnswer}
@@ -34,11 +35,11 @@ module _ (P : Answer → Type 0) (done : P Done) (refused : (n l p : ℕ) → 3 
       each-has P done (framesIn s) (frameAnswer l s) (λ k. row-has P _ _ (one 15 l _ _ (omega arith) (omega arith) h) (one 16 l _ _ (omega arith) (omega arith) h))
 
   lengths-has : (key rec iv : List ℕ) → P (lengthsAnswer key rec iv)
-  unfolding lengthsAnswer lengthAnswer
+  unfolding lengthsAnswer keyLengthAnswer lengthAnswer
   lengths-has key rec iv = three 3 _ _ _ _ _ _ (omega arith) (omega arith)
 
   bits-has : (key rec iv : List ℕ) → P (threeBitsAnswer key rec iv)
-  unfolding threeBitsAnswer bitsAnswer
+  unfolding threeBitsAnswer keyBitsAnswer bitsAnswer firstAnswer
   bits-has key rec iv = three 4 _ _ _ _ _ _ (omega arith) (omega arith)
 
   end-has : (s iv : List ℕ) (n : ℕ) → P (endAnswer s iv n)
@@ -58,7 +59,7 @@ module _ (P : Answer → Type 0) (done : P Done) (refused : (n l p : ℕ) → 3 
       (row-has P _ _ (bits-has key rec iv) (end-has last iv n))
 
   pub read-has : (key s : List ℕ) (n : ℕ) → P (readAnswer key s n)
-  unfolding readAnswer lengthAnswer bitsAnswer roomAnswer
+  unfolding readAnswer keyLengthAnswer keyBitsAnswer lengthAnswer bitsAnswer firstAnswer roomAnswer
   read-has key s n =
       row-has P _ _ (one 3 1 _ _ (omega arith) (omega arith) (omega arith))
       (row-has P _ _ (one 4 1 _ _ (omega arith) (omega arith) (omega arith))

@@ -14,12 +14,14 @@ use Rattle.answer.specs.Choose.{choose}
 use Rattle.answer.specs.First.{firstFrom}
 use Rattle.answer.specs.Fronts.{left}
 use Rattle.instance.specs.Table.{sizesOf, whiteBits}
-use Rattle.instance.specs.Judging.{outside, numbersAnswer, rowsAnswer, whiteAnswer, wiringLengths}
+use Rattle.instance.specs.Judging.{outside, numbersAnswer, rowsAnswer, whiteAnswer, wiringLengths, wiringRows}
+use Rattle.instance.specs.Keys.{keyIn, keyLengthAnswer, keyBitsAnswer}
 use Rattle.answer.specs.Judges.{lengthAnswer, firstAnswer, roomAnswer}
 use Rattle.kreyvium.specs.Kreyvium.{streamOf}
-use Rattle.judging.specs.Judging.{wiringAnswer, encipherAnswer}
+use Rattle.judging.specs.Judging.{encipherAnswer}
 use Rattle.cipher.specs.Cipher.{keystreamOf, encipherOf, Ciphered}
-use Rattle.daemon.specs.Daemon.{withoutIndices, kreyviumAnswer, Enciphered}
+use Rattle.daemon.specs.Daemon.{kreyviumAnswer, Enciphered}
+use Rattle.daemon.specs.Inner.{withoutIndices}
 
 counted-row : (a b : Answer) → withoutIndices (a ▹ b) ≡ withoutIndices a ▹ withoutIndices b
 unfolding withoutIndices _▹_
@@ -45,23 +47,23 @@ unfolding wiringLengths lengthAnswer sizesOf whiteBits _▹_ refuse
 no-indices m w = rw (mul-zero m)
 
 lengths-counted : (m k r w : ℕ)
-    → withoutIndices (lengthAnswer 1 k 128 ▹ lengthAnswer 2 r m ▹ wiringLengths 3 6 m 0 w) ≡ lengthAnswer 1 k 128 ▹ lengthAnswer 2 r m ▹ lengthAnswer 3 w 128
-unfolding lengthAnswer
+    → withoutIndices (keyLengthAnswer 1 6 k ▹ lengthAnswer 2 r m ▹ wiringLengths 3 6 m 0 w) ≡ keyLengthAnswer 1 6 k ▹ lengthAnswer 2 r m ▹ lengthAnswer 3 w 128
+unfolding keyLengthAnswer lengthAnswer
 lengths-counted m k r w =
     both _ _ (counted-refuse 3 1 k _)
     (both _ _ (counted-refuse 3 2 r _) (ap withoutIndices (no-indices m w) ∙ counted-refuse 3 4 w _))
 
 bits-counted : (key rec iv : List ℕ)
-    → withoutIndices (bitsAnswer 1 key ▹ bitsAnswer 2 rec ▹ bitsAnswer 4 iv) ≡ bitsAnswer 1 key ▹ bitsAnswer 2 rec ▹ bitsAnswer 3 iv
-unfolding bitsAnswer
+    → withoutIndices (keyBitsAnswer 1 6 key ▹ bitsAnswer 2 rec ▹ bitsAnswer 4 iv) ≡ keyBitsAnswer 1 6 key ▹ bitsAnswer 2 rec ▹ bitsAnswer 3 iv
+unfolding keyBitsAnswer bitsAnswer firstAnswer
 bits-counted key rec iv = both _ _ (counted-refuse 4 1 _ _) (both _ _ (counted-refuse 4 2 _ _) (counted-refuse 4 4 _ _))
 
-wiring-counted : (m n : ℕ) (iv : List ℕ) → withoutIndices (wiringAnswer 3 6 m [] iv n) ≡ roomAnswer 4 n m
-unfolding wiringAnswer rowsAnswer firstAnswer whiteAnswer roomAnswer _▹_ refuse firstFrom
+wiring-counted : (m n : ℕ) (iv : List ℕ) → withoutIndices (wiringRows 3 6 [] iv ▹ roomAnswer 5 n m) ≡ roomAnswer 4 n m
+unfolding wiringRows rowsAnswer firstAnswer whiteAnswer roomAnswer _▹_ refuse firstFrom
 wiring-counted m n iv = counted-refuse 8 5 n (ltb n m)
 
 pub kreyvium-counted : (m : ℕ) (key rec iv : List ℕ) (n : ℕ) → withoutIndices (encipherAnswer 6 m key rec [] iv n) ≡ kreyviumAnswer m key rec iv n
-unfolding encipherAnswer kreyviumAnswer sizesOf
+unfolding encipherAnswer kreyviumAnswer
 kreyvium-counted m key rec iv n =
     both _ _ (numbers-counted m)
     (both _ _ (lengths-counted m (length key) (length rec) (length iv)) (both _ _ (bits-counted key rec iv) (wiring-counted m n iv)))
@@ -73,17 +75,17 @@ left-counted Done front old = refl
 left-counted (Refused n l p) front old = refl
 
 kreyvium-same : (m : ℕ) (key rec iv out : List ℕ)
-    → left (encipherAnswer 6 m key rec [] iv (length out)) (encipherOf 6 m key rec [] iv) out ≡ left (kreyviumAnswer m key rec iv (length out)) (added rec (streamOf key iv m)) out
+    → left (encipherAnswer 6 m key rec [] iv (length out)) (encipherOf 6 m (keyIn 6 key) rec [] iv) out ≡ left (kreyviumAnswer m key rec iv (length out)) (added rec (streamOf (keyIn 6 key) iv m)) out
 unfolding encipherOf keystreamOf
 kreyvium-same m key rec iv out =
     left-counted (encipherAnswer 6 m key rec [] iv (length out)) _ out
-    ∙ ap (λ (a : Answer). left a (added rec (streamOf key iv m)) out) (kreyvium-counted m key rec iv (length out))
+    ∙ ap (λ (a : Answer). left a (added rec (streamOf (keyIn 6 key) iv m)) out) (kreyvium-counted m key rec iv (length out))
 
 pub kreyvium-left : (m : ℕ) (key rec iv out : List ℕ) {r : Answer} {out′ : List ℕ} → Ciphered 6 m key rec [] iv out r out′
-    → out′ ≡ left (kreyviumAnswer m key rec iv (length out)) (added rec (streamOf key iv m)) out
+    → out′ ≡ left (kreyviumAnswer m key rec iv (length out)) (added rec (streamOf (keyIn 6 key) iv m)) out
 kreyvium-left m key rec iv out x =
     x .written
-    ∙ ap (λ (a : Answer). left a (encipherOf 6 m key rec [] iv) out) (x .answered)
+    ∙ ap (λ (a : Answer). left a (encipherOf 6 m (keyIn 6 key) rec [] iv) out) (x .answered)
     ∙ kreyvium-same m key rec iv out
 
 -- So what holds of the cipher call holds of this one: what it left is what that one leaves, and it is accepted where that one

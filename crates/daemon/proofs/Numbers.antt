@@ -9,7 +9,8 @@ use Rattle.answer.specs.declared.Answer.the-variants.{Done, Refused}
 use Rattle.answer.specs.Answers.{numberOf, listOf, placeOf, _▹_, refuse}
 use Rattle.answer.specs.Bits.{bitsAnswer}
 use Rattle.answer.proofs.Every.{row-has, refuse-has}
-use Rattle.answer.specs.Judges.{lengthAnswer, roomAnswer}
+use Rattle.answer.specs.Judges.{lengthAnswer, firstAnswer, roomAnswer}
+use Rattle.instance.specs.Keys.{keyLengthAnswer, keyBitsAnswer}
 use Rattle.records.specs.declared.form.Form.{Form}
 use Rattle.records.specs.File.{checkAnswer}
 use Rattle.file.proofs.Round.{check-has}
@@ -49,7 +50,7 @@ module _ (P : Answer → Type 0) (done : P Done) (refused : (n l p : ℕ) → 2 
       (row-has P _ _ (refuse-one n 2 q c g h (omega arith)) (refuse-one n 3 r d g h (omega arith)))
 
   pub kreyvium-has : (m : ℕ) (key rec iv : List ℕ) (n : ℕ) → P (kreyviumAnswer m key rec iv n)
-  unfolding kreyviumAnswer lengthAnswer bitsAnswer roomAnswer
+  unfolding kreyviumAnswer keyLengthAnswer keyBitsAnswer lengthAnswer bitsAnswer firstAnswer roomAnswer
   kreyvium-has m key rec iv n =
       row-has P _ _ (refuse-one 2 0 0 _ (omega arith) (omega arith) (omega arith))
       (row-has P _ _ (refuse-three 3 _ _ _ _ _ _ (omega arith) (omega arith))

@@ -6,7 +6,8 @@ ghost use Prim.Native.Nat.{min};
 ghost use Rattle.records.specs.declared.form.Form.{Form};
 ghost use Rattle.records.specs.File.{checkAnswer};
 ghost use Rattle.daemon.specs.Packed.{Small, mostPlace, packedOf};
-ghost use Rattle.daemon.specs.Daemon.{withoutIndices, Enciphered};
+ghost use Rattle.daemon.specs.Daemon.{Enciphered};
+ghost use Rattle.daemon.specs.Inner.{withoutIndices};
 
 // The largest place that fits above number and list.
 const MOST_PLACE: u64 = 281474976710655;

@@ -1,31 +1,27 @@
 -- What Done tells of score.
 use Prim.Native.Nat.{ℕ, _+_, _≤_}
-use mathlib.Core.Path.{_≡_, sym, _∙_}
+use mathlib.Core.Path.{_≡_, _∙_}
 use mathlib.Core.List.{List}
 use lib.ListN.{length}
 use borrow.Author.Tests.{eqb-true, ltb-false, not-false}
 use Rattle.answer.specs.declared.Answer.the-variants.{Done}
-use Rattle.answer.proofs.Rows.{first-done, then-done, both, refuse-done, one-of, two-of, three-of}
+use Rattle.answer.proofs.Rows.{first-done, then-done, refuse-done, one-of, two-of, three-of}
 use Rattle.netlist.specs.Words.{inputsOf, gatesOf, outputsOf}
 use Rattle.netlist.specs.Check.{gateLimit}
 use Rattle.netlist.specs.Sound.{Sound}
 use Rattle.netlist.proofs.Accepted.{done-sound}
 use Rattle.instance.specs.Table.{keyBits}
-use Rattle.answer.proofs.Judges.{room-done, done-room}
+use Rattle.instance.specs.Wired.{Wired, Bits}
+use Rattle.instance.specs.Keys.{Keyed}
+use Rattle.answer.proofs.Judges.{room-done}
 use Rattle.judging.specs.Judging.{encipherAnswer}
-use Rattle.judging.specs.Judging as judging
-use Rattle.cipher.proofs.Accepted.{encipher-lent}
-use Rattle.wiring.specs.Rows.{Inputs}
-use Rattle.glue.specs.Glue.{gluedSize}
-use Rattle.glue.specs.Parts.{Fit}
-use Rattle.emit.specs.Emit.{wiringAnswer, decipherAnswer}
-use Rattle.emit.specs.Lent.{Lent}
-use Rattle.emit.proofs.Accepted.{wiring-lent}
+use Rattle.judging.proofs.Accepted.{encipher-wired, encipher-accepted}
+use Rattle.glue.specs.Glue.{gluedSize, Fit}
+use Rattle.emit.specs.Emit.{decipherAnswer}
+use Rattle.emit.proofs.Accepted.{decipher-accepted}
+use Rattle.emit.proofs.Emission.{emitted-sound, emitted-outputs}
 use Rattle.path.specs.declared.Rooms.{Rooms}
-use Rattle.path.specs.Path.{decipherWords, roomsAnswer, scoreAnswer}
-use Rattle.path.specs.Steps.{resultsAnswer}
-use Rattle.path.proofs.Judging.{encipher-parts, wiring-accepted}
-use Rattle.path.proofs.Emission.{emitted-sound, emitted-outputs}
+use Rattle.path.specs.Path.{decipherWords, roomsAnswer, resultsAnswer, scoreAnswer}
 
 -- The results have room: a is the deciphering netlist, b the scoring netlist.
 pub record Spacious (inst m : ℕ) (a b : List ℕ) (lent : Rooms) : Type 0 where
@@ -69,57 +65,38 @@ results-done inst m a b lent e =
       few = ltb-false _ _ (refuse-done 11 0 0 _ (three-of _ _ _ r));
     }
 
--- enciphering accepts any room that is large enough
-roomy : (inst m : ℕ) (key rec idx wh : List ℕ) (n : ℕ) → encipherAnswer inst m key rec idx wh m ≡ Done → m ≤ n → encipherAnswer inst m key rec idx wh n ≡ Done
-unfolding encipherAnswer judging.wiringAnswer
-roomy inst m key rec idx wh n e h =
-    let e1 = then-done _ _ e in
-    let e2 = then-done _ _ e1 in
-    let w = then-done _ _ e2 in
-    both (first-done _ _ e)
-    (both (first-done _ _ e1)
-    (both (first-done _ _ e2) (both (one-of _ _ _ w) (both (two-of _ _ _ w) (done-room 5 n m h)))))
-
--- so does emission
-emits : (inst m : ℕ) (idx wh : List ℕ) (n : ℕ) → wiringAnswer inst m idx wh ≡ Done → length (decipherWords inst m idx wh) ≤ n → decipherAnswer inst m idx wh n ≡ Done
-unfolding decipherAnswer
-emits inst m idx wh n e h = both e (done-room 3 n _ h)
-
 module _ (inst m : ℕ) (key rec idx wh score : List ℕ) (lent : Rooms) (done : scoreAnswer inst m key rec idx wh score lent ≡ Done) where
-  enciphers : encipherAnswer inst m key rec idx wh m ≡ Done
-  unfolding scoreAnswer
-  enciphers = first-done _ _ done
-
   pub fitting : Fitting inst m (decipherWords inst m idx wh) score lent
-  unfolding scoreAnswer resultsAnswer
+  unfolding scoreAnswer
   fitting = results-done inst m _ score lent (then-done _ _ done)
 
-  wired : wiringAnswer inst m idx wh ≡ Done
-  wired =
-      let p = sym (encipher-parts inst m key rec idx wh) ∙ enciphers in
-      wiring-accepted inst m key rec idx wh (one-of _ _ _ p) (three-of _ _ _ p)
+  -- what was lent is what the rules let a caller lend
+  accepted : Wired inst m idx wh × Keyed inst key × Bits m rec × (m ≤ m)
+  unfolding scoreAnswer
+  accepted = encipher-wired inst m key rec idx wh m (first-done _ _ done)
 
-  pub net-lent : Lent inst m idx wh
-  net-lent = wiring-lent inst m idx wh wired
+  pub wired : Wired inst m idx wh
+  wired = accepted .0
 
-  pub inputs-lent : Inputs inst m key rec
-  inputs-lent =
-      let l = encipher-lent inst m key rec idx wh m enciphers in
-      record { keyLength = l .0 .keyLength; recLength = l .2; keyBit = l .0 .keyBit; recBit = l .3 }
+  pub keyed : Keyed inst key
+  keyed = accepted .1
+
+  pub bits : Bits m rec
+  bits = accepted .2
 
   -- No step refuses.
   pub encipher-done : encipherAnswer inst m key rec idx wh (lent .enciphered) ≡ Done
-  encipher-done = roomy inst m key rec idx wh _ enciphers (fitting .space .enciphered)
+  encipher-done = encipher-accepted inst m key rec idx wh _ wired keyed bits (fitting .space .enciphered)
 
   pub emit-done : decipherAnswer inst m idx wh (lent .deciphering) ≡ Done
-  emit-done = emits inst m idx wh _ wired (fitting .space .deciphering)
+  emit-done = decipher-accepted inst m idx wh _ wired (fitting .space .deciphering)
 
   pub glue-fit : Fit (decipherWords inst m idx wh) score (lent .glued)
   glue-fit =
       record {
-        first = emitted-sound inst m idx wh net-lent;
+        first = emitted-sound inst m idx wh wired;
         second = fitting .sound;
         space = fitting .space .glued;
-        fits = emitted-outputs inst m idx wh net-lent ∙ fitting .fits;
+        fits = emitted-outputs inst m idx wh wired ∙ fitting .fits;
         few = fitting .few;
       }

@@ -11,18 +11,18 @@ use Rattle.answer.specs.declared.Answer.the-variants.{Done, Refused}
 use Rattle.answer.specs.Answers.{_▹_, refuse}
 use Rattle.answer.specs.Bits.{bitsAnswer}
 use Rattle.answer.proofs.Rows.{first-done, then-done, both, pass, stop}
-use Rattle.netlist.specs.Words.{inputsOf, gatesOf, outputsOf}
+use Rattle.netlist.specs.Words.{gatePlace, inputsOf, gatesOf, outputsOf}
 use Rattle.netlist.specs.Check.{gateLimit, netAnswer}
 use Rattle.instance.specs.Table.{keyBits, rowBits}
-use Rattle.instance.specs.Judging.{rowsAnswer, whiteAnswer, wiringLengths}
+use Rattle.instance.specs.Judging.{rowsAnswer, whiteAnswer, wiringLengths, wiringRows}
+use Rattle.instance.specs.Keys.{keyBitsAnswer}
 use Rattle.answer.specs.Judges.{lengthAnswer, roomAnswer}
 use Rattle.answer.proofs.Judges.{length-done, done-length, done-room}
 use Rattle.judging.specs.Judging.{encipherAnswer}
-use Rattle.judging.specs.Judging as judging
 use Rattle.emit.specs.Emit.{wiringAnswer}
 use Rattle.path.specs.declared.Rooms.{Rooms}
-use Rattle.path.specs.Path.{decipherWords, roomsAnswer, scoreAnswer}
-use Rattle.path.specs.Steps.{renamedTo, sizesAnswer, resultsAnswer}
+use Rattle.path.specs.Path.{decipherWords, roomsAnswer, resultsAnswer, scoreAnswer}
+use Rattle.path.specs.Inner.{renamedTo, sizesAnswer}
 use Rattle.path.proofs.Lists.{wiring-renamed, renamed-done}
 
 -- rows of answers, however they are grouped
@@ -45,29 +45,29 @@ module _ (inst m : ℕ) (key rec idx wh : List ℕ) where
   sizes = sizesAnswer inst m (length key) (length rec) (length idx) (length wh)
 
   abbrev pub bits : Answer
-  bits = bitsAnswer 1 key ▹ bitsAnswer 2 rec
+  bits = keyBitsAnswer 1 inst key ▹ bitsAnswer 2 rec
 
   -- 4 to 7 on the whitening or IV and the indices
   abbrev pub wiring : Answer
-  wiring = bitsAnswer 4 wh ▹ (rowsAnswer 3 (keyBits inst) (rowBits inst) idx ▹ whiteAnswer 4 inst wh)
+  wiring = bitsAnswer 4 wh ▹ wiringRows 3 inst idx wh
 
   pub encipher-parts : encipherAnswer inst m key rec idx wh m ≡ sizes ▹ bits ▹ wiring
-  unfolding encipherAnswer sizesAnswer judging.wiringAnswer
+  unfolding encipherAnswer sizesAnswer
   encipher-parts =
-      let R = rowsAnswer 3 (keyBits inst) (rowBits inst) idx in
-      let W = whiteAnswer 4 inst wh in
-      let T = R ▹ W ▹ roomAnswer 5 m m in
-      let e : T ≡ R ▹ W = ap (λ (a : Answer). R ▹ a) (row-end W (done-room 5 m m (omega arith))) in
-      let f : (bitsAnswer 1 key ▹ bitsAnswer 2 rec ▹ bitsAnswer 4 wh) ▹ T ≡ bits ▹ wiring =
-      row-row (bitsAnswer 1 key) _ T
-      ∙ ap (λ (a : Answer). bitsAnswer 1 key ▹ a) (row-row (bitsAnswer 2 rec) (bitsAnswer 4 wh) T)
-      ∙ sym (row-row (bitsAnswer 1 key) (bitsAnswer 2 rec) _)
+      let K = keyBitsAnswer 1 inst key in
+      let R = wiringRows 3 inst idx wh in
+      let T = R ▹ roomAnswer 5 m m in
+      let e : T ≡ R = row-end R (done-room 5 m m (omega arith)) in
+      let f : (K ▹ bitsAnswer 2 rec ▹ bitsAnswer 4 wh) ▹ T ≡ bits ▹ wiring =
+      row-row K _ T
+      ∙ ap (λ (a : Answer). K ▹ a) (row-row (bitsAnswer 2 rec) (bitsAnswer 4 wh) T)
+      ∙ sym (row-row K (bitsAnswer 2 rec) _)
       ∙ ap (λ (a : Answer). bits ▹ bitsAnswer 4 wh ▹ a) e in
       sym (row-row _ _ _) ∙ ap (λ (a : Answer). sizes ▹ a) f
 
   -- emission's judging of the wiring, whose lists 1 and 2 are 3 and 4 here
   pub wiring-is : sizes ≡ Done → renamedTo 2 4 (renamedTo 1 3 (wiringAnswer inst m idx wh)) ≡ wiring
-  unfolding sizesAnswer wiringLengths wiringAnswer
+  unfolding sizesAnswer wiringLengths wiringRows wiringAnswer
   wiring-is e =
       let l = then-done _ _ (then-done _ _ (then-done _ _ e)) in
       let w : wiringAnswer inst m idx wh ≡ bitsAnswer 2 wh ▹ (rowsAnswer 1 (keyBits inst) (rowBits inst) idx ▹ whiteAnswer 2 inst wh) =
@@ -98,14 +98,14 @@ module _ (inst m : ℕ) (key rec idx wh : List ℕ) where
     refused-wiring d b e h = early (pass d (pass b e)) h
 
     pub judged : {r : Answer} → sizes ≡ Done → bits ≡ Done → wiring ≡ Done → r ≡ resultsAnswer inst m (decipherWords inst m idx wh) score lent → r ≡ due
-    unfolding scoreAnswer resultsAnswer
+    unfolding scoreAnswer
     judged d b w e = pass (encipher-parts ∙ both d (both b w)) e
 
 -- 9, 8, 10 and 11 from the netlists' counts
 pub results-are : (inst m k gates words g o i : ℕ) (a b : List ℕ) (lent : Rooms) {nine eight last late r : Answer}
     → k ≡ keyBits inst → gates ≡ gatesOf a → words ≡ length a → g ≡ gatesOf b → o ≡ outputsOf b → i ≡ inputsOf b
     → nine ≡ netAnswer 5 b
-    → eight ≡ roomAnswer 6 (lent .enciphered) m ▹ roomAnswer 7 (lent .deciphering) words ▹ roomAnswer 8 (lent .glued) (3 + 4 * (gates + g) + o)
+    → eight ≡ roomAnswer 6 (lent .enciphered) m ▹ roomAnswer 7 (lent .deciphering) words ▹ roomAnswer 8 (lent .glued) (gatePlace (gates + g) + o)
     ▹ roomAnswer 9 (lent .inputs) (k + m) ▹ roomAnswer 10 (lent .wires) (k + m + (gates + g)) ▹ roomAnswer 11 (lent .scores) o
     → last ≡ refuse 10 0 0 (not (eqb m i)) ▹ refuse 11 0 0 (ltb gateLimit (gates + g))
     → late ≡ eight ▹ last → r ≡ nine ▹ late → r ≡ resultsAnswer inst m a b lent

@@ -1,5 +1,3 @@
-pub mod Gluing
-pub mod Emission
 pub mod Scores
 pub mod Lists
 pub mod Judging

@@ -12,7 +12,7 @@ use Rattle.answer.specs.Choose.{choose}
 use Rattle.instance.specs.Table.{keyBits, rowBits}
 use Rattle.instance.specs.Judging.{rowsAnswer, whiteAnswer}
 use Rattle.answer.specs.Judges.{firstAnswer}
-use Rattle.path.specs.Steps.{renamedTo}
+use Rattle.path.specs.Inner.{renamedTo}
 
 module _ (from to : ℕ) where
   abbrev here : ℕ → ℕ

@@ -1,2 +1,2 @@
 pub mod Path
-pub mod Steps
+pub mod Inner

@@ -13,6 +13,7 @@ use Rattle.netlist.specs.Net.{values, eval}
 use Rattle.netlist.specs.Words.{inputsOf, gatesOf, outputsOf, words, netOf}
 use Rattle.netlist.specs.Check.{gateLimit, netAnswer}
 use Rattle.instance.specs.Table.{keyBits}
+use Rattle.instance.specs.Keys.{keyIn}
 use Rattle.answer.specs.Judges.{roomAnswer}
 use Rattle.judging.specs.Judging.{encipherAnswer}
 use Rattle.cipher.specs.Cipher.{encipherOf}
@@ -20,15 +21,19 @@ use Rattle.glue.specs.Glue.{gluedSize, gluedWords}
 use Rattle.emit.specs.Emit.{decipherNet}
 use Rattle.path.specs.declared.Rooms.{Rooms}
 
--- What is made on the way: the words of the deciphering netlist, the scoring netlist glued behind it, and its inputs.
+-- What is made on the way: the words of the deciphering netlist, the scoring netlist glued behind it, the enciphered record, and
+-- the inputs of the glued netlist: the key's bits and the enciphered record.
 abbrev pub decipherWords : ℕ → ℕ → List ℕ → List ℕ → List ℕ
 decipherWords inst m idx wh = words (decipherNet inst m idx wh)
 
 abbrev pub scoreWords : ℕ → ℕ → List ℕ → List ℕ → List ℕ → List ℕ
 scoreWords inst m idx wh score = gluedWords (decipherWords inst m idx wh) score
 
+abbrev pub sealed : ℕ → ℕ → List ℕ → List ℕ → List ℕ → List ℕ → List ℕ
+sealed inst m key rec idx wh = encipherOf inst m (keyIn inst key) rec idx wh
+
 abbrev pub scoreInputs : ℕ → ℕ → List ℕ → List ℕ → List ℕ → List ℕ → List ℕ
-scoreInputs inst m key rec idx wh = key ++ encipherOf inst m key rec idx wh
+scoreInputs inst m key rec idx wh = keyIn inst key ++ sealed inst m key rec idx wh
 
 -- 8 on each result, where a is the deciphering netlist and b the scoring netlist
 unfoldable pub roomsAnswer : ℕ → ℕ → List ℕ → List ℕ → Rooms → Answer
@@ -40,15 +45,18 @@ roomsAnswer inst m a b lent =
     ▹ roomAnswer 10 (lent .wires) (keyBits inst + m + (gatesOf a + gatesOf b))
     ▹ roomAnswer 11 (lent .scores) (outputsOf b)
 
--- 1 to 7: what enciphering answers where there is room for m bits; 9 of the scoring netlist, which says how much room is
--- needed; 8; 10 and 11
+-- 9 of the scoring netlist, which says how much room is needed; 8; 10 and 11
+unfoldable pub resultsAnswer : ℕ → ℕ → List ℕ → List ℕ → Rooms → Answer
+resultsAnswer inst m a b lent =
+    netAnswer 5 b
+    ▹ roomsAnswer inst m a b lent
+    ▹ refuse 10 0 0 (not (eqb m (inputsOf b)))
+    ▹ refuse 11 0 0 (ltb gateLimit (gatesOf a + gatesOf b))
+
+-- 1 to 7, which are what enciphering answers where there is room for m bits; then these
 unfoldable pub scoreAnswer : ℕ → ℕ → List ℕ → List ℕ → List ℕ → List ℕ → List ℕ → Rooms → Answer
 scoreAnswer inst m key rec idx wh score lent =
-    encipherAnswer inst m key rec idx wh m
-    ▹ netAnswer 5 score
-    ▹ roomsAnswer inst m (decipherWords inst m idx wh) score lent
-    ▹ refuse 10 0 0 (not (eqb m (inputsOf score)))
-    ▹ refuse 11 0 0 (ltb gateLimit (gatesOf (decipherWords inst m idx wh) + gatesOf score))
+    encipherAnswer inst m key rec idx wh m ▹ resultsAnswer inst m (decipherWords inst m idx wh) score lent
 
 -- how many places the results have
 abbrev pub roomsOf : List ℕ → List ℕ → List ℕ → List ℕ → List ℕ → List ℕ → Rooms
@@ -65,7 +73,7 @@ roomsOf enc net glued inp vals out = record {
 -- outputs on the plain record; on a refusal what was lent.
 pub record Scored (inst m : ℕ) (key rec idx wh score enc net glued inp vals out : List ℕ) (r : Answer) (enc′ net′ glued′ inp′ vals′ out′ : List ℕ) : Type 0 where
   pub answered : r ≡ scoreAnswer inst m key rec idx wh score (roomsOf enc net glued inp vals out)
-  pub enciphers : enc′ ≡ left r (encipherOf inst m key rec idx wh) enc
+  pub enciphers : enc′ ≡ left r (sealed inst m key rec idx wh) enc
   pub emits : net′ ≡ left r (decipherWords inst m idx wh) net
   pub glues : glued′ ≡ left r (scoreWords inst m idx wh score) glued
   pub lends : inp′ ≡ left r (scoreInputs inst m key rec idx wh) inp

@@ -16,8 +16,9 @@ ghost use Rattle.answer.specs.Bits.{bitsAnswer};
 ghost use Rattle.netlist.specs.Words.{gatesOf};
 ghost use Rattle.netlist.specs.Check.{gateLimit};
 ghost use Rattle.answer.specs.Judges.{roomAnswer};
-ghost use Rattle.path.specs.Path.{scoreAnswer};
-ghost use Rattle.path.specs.Steps.{renamedTo, sizesAnswer, resultsAnswer};
+ghost use Rattle.instance.specs.Keys.{keyBitsAnswer};
+ghost use Rattle.path.specs.Path.{resultsAnswer, scoreAnswer};
+ghost use Rattle.path.specs.Inner.{renamedTo, sizesAnswer};
 
 // The first answer, or if that is done the second.
 fn first(a: Answer, b: Answer) -> Answer
@@ -58,21 +59,17 @@ fn sizes(
 ) -> Answer
     ensures { λ r. ⌜ r ≡ sizesAnswer instance m key «record» indices whitening ⌝ }
 {
-    let sizes = instance::sizes_of(instance);
-    let k = answer::exact(key, sizes.key, 1);
+    let k = instance::key_length(instance, key, 1);
     let r = answer::exact(record, m as usize, 2);
-    let row = instance::row_bits(instance);
-    let i = answer::exact(indices, (m as usize) * row, 3);
-    let w = answer::exact(whitening, instance::whitening_bits(instance, m), 4);
-    let lengths = first(k, first(r, first(i, w)));
-    first(instance::numbers(instance, m), lengths)
+    let w = instance::wiring_lengths(instance, m, indices, whitening, 3);
+    first(instance::numbers(instance, m), first(k, first(r, w)))
 }
 
 // 4 on the key and the record.
-fn bits(key: &[u8], record: &[u8]) -> Answer
-    ensures { λ r. ⌜ r ≡ bitsAnswer 1 (now (key .entry)) ▹ bitsAnswer 2 (now («record» .entry)) ⌝ }
+fn bits(instance: u32, key: &[u8], record: &[u8]) -> Answer
+    ensures { λ r. ⌜ r ≡ keyBitsAnswer 1 instance (now (key .entry)) ▹ bitsAnswer 2 (now («record» .entry)) ⌝ }
 {
-    let k = answer::bits(key, 1);
+    let k = instance::key_bits(instance, key, 1);
     let r = answer::bits(record, 2);
     first(k, r)
 }
@@ -95,18 +92,10 @@ fn fit(m: u32, inputs: u32, gates: usize) -> Answer
     ensures { λ r. ⌜ r ≡ refuse 10 0 0 (not (eqb m inputs)) ▹ refuse 11 0 0 (ltb gateLimit gates) ⌝ }
 {
     if m != inputs {
-        return Answer::Refused {
-            number: answer::FIT,
-            list: 0,
-            place: 0,
-        };
+        return answer::refused(answer::FIT, 0, 0);
     }
     if (GATE_LIMIT as usize) < gates {
-        return Answer::Refused {
-            number: answer::GATES,
-            list: 0,
-            place: 0,
-        };
+        return answer::refused(answer::GATES, 0, 0);
     }
     Answer::Done
 }
@@ -126,8 +115,9 @@ fn results(
 {
     let sizes = instance::sizes_of(instance);
     let inputs = sizes.key + m as usize;
-    let both = gates + answer::word_at(scoring, 1) as usize;
-    let outputs = answer::word_at(scoring, 2) as usize;
+    let counts = netlist::counts::counts_of(scoring);
+    let both = gates + counts.gates as usize;
+    let outputs = counts.outputs as usize;
     let needed = Rooms {
         enciphered: m as usize,
         deciphering: words,
@@ -138,7 +128,7 @@ fn results(
     };
     let nine = netlist::check::check_as(scoring, 5);
     let eight = room(lent, needed);
-    let last = fit(m, answer::word_at(scoring, 0), both);
+    let last = fit(m, counts.inputs, both);
     first(nine, first(eight, last))
 }
 
@@ -166,7 +156,7 @@ pub(crate) fn score(
     let Answer::Done = r else {
         return r;
     };
-    let s = bits(key, record);
+    let s = bits(instance, key, record);
     let Answer::Done = s else {
         return s;
     };

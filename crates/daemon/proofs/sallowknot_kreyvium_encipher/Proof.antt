@@ -2,7 +2,8 @@ use mathlib.Core.Path.{_≡_, ap, _∙_}
 use denote.Ref.{now}
 use lib.ListN.{length}
 use Rattle.daemon.specs.Packed.{packedOf}
-use Rattle.daemon.specs.Daemon.{withoutIndices, kreyviumAnswer}
+use Rattle.daemon.specs.Daemon.{kreyviumAnswer}
+use Rattle.daemon.specs.Inner.{withoutIndices}
 use Rattle.daemon.proofs.Numbers.{kreyvium-small}
 use Rattle.daemon.proofs.Counted.{kreyvium-counted, kreyvium-left}
 use borrow.Author.Needs.{needs}

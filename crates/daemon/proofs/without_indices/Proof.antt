@@ -1,5 +1,5 @@
 use borrow.Author.Tests.{lt-ltb, le-ltb}
-use Rattle.daemon.specs.Daemon.{withoutIndices}
+use Rattle.daemon.specs.Inner.{withoutIndices}
 use borrow.Author.Needs.{needs}
 use Rattle.daemon.proofs.without_indices.Statement.{statement}
 use Rattle.daemon.proofs.without_indices.Tie as tie

