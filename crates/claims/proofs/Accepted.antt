@@ -15,7 +15,7 @@ use Rattle.netlist.specs.Words.{words}
 use Rattle.netlist.specs.Emitted.{Emitted}
 use Rattle.instance.specs.Table.{rowBits, whiteBits}
 use Rattle.instance.specs.Wired.{Wired, Bits}
-use Rattle.instance.specs.Keys.{Keyed}
+use Rattle.instance.specs.Keys.{Keyed, keyIn}
 use Rattle.choice.specs.Choice.{rowOf, Chosen}
 use Rattle.choice.specs.Draws.{Drawn}
 use Rattle.choice.proofs.Accepted.{row-fits, choose-accepted}
@@ -23,10 +23,9 @@ use Rattle.filter.specs.Filter.{tab}
 use Rattle.filter.proofs.Tab.{tab-length, tab-at}
 use Rattle.cipher.specs.Cipher.{keystreamOf, encipherOf, Streamed, Ciphered}
 use Rattle.judging.proofs.Accepted.{keystream-accepted, encipher-accepted}
-use Rattle.wiring.specs.Rows.{Inputs}
 use Rattle.emit.specs.Emit.{decipherAnswer, decipherNet}
-use Rattle.emit.proofs.Accepted.{decipher-accepted, lent-of}
-use Rattle.path.proofs.Scores.{encipher-inputs}
+use Rattle.emit.proofs.Accepted.{decipher-accepted}
+use Rattle.path.proofs.Scores.{inputs-of, encipher-inputs}
 
 -- ---- There are such lists, for every instance and every m: rows 0, 1, .. n - 1, and all else 0.
 
@@ -103,21 +102,17 @@ module _ (inst m : ℕ) (idx wh : List ℕ) (wired : Wired inst m idx wh) where
 
   module _ (key : List ℕ) (keyed : Keyed inst key) where
     pub keystream-gives : (out : List ℕ) {r : Answer} {out′ : List ℕ} → m ≤ length out → Streamed inst m key idx wh out r out′
-        → (r ≡ Done) × (out′ ≡ over (keystreamOf inst m key idx wh) out)
+        → (r ≡ Done) × (out′ ≡ over (keystreamOf inst m (keyIn inst key) idx wh) out)
     keystream-gives out h x = gives _ out (x .answered) (keystream-accepted inst m key idx wh (length out) wired keyed h) (x .written)
 
     -- enciphering and deciphering
     pub encipher-gives : (rec out : List ℕ) {r : Answer} {out′ : List ℕ} → Bits m rec → m ≤ length out → Ciphered inst m key rec idx wh out r out′
-        → (r ≡ Done) × (out′ ≡ over (encipherOf inst m key rec idx wh) out)
+        → (r ≡ Done) × (out′ ≡ over (encipherOf inst m (keyIn inst key) rec idx wh) out)
     encipher-gives rec out b h x =
         gives _ out (x .answered) (encipher-accepted inst m key rec idx wh (length out) wired keyed b h) (x .written)
 
-    -- the inputs of the deciphering netlist
-    pub inputs-of : (rec : List ℕ) → Bits m rec → Inputs inst m key rec
-    inputs-of rec b = record { keyLength = keyed .size; recLength = b .size; keyBit = keyed .bit; recBit = b .bit }
-
     -- an enciphered record is a record of m bits
-    pub enciphered : (rec : List ℕ) → Bits m rec → Bits m (encipherOf inst m key rec idx wh)
+    pub enciphered : (rec : List ℕ) → Bits m rec → Bits m (encipherOf inst m (keyIn inst key) rec idx wh)
     enciphered rec b =
-        let e = encipher-inputs inst m idx wh (lent-of inst m idx wh wired) key rec (inputs-of rec b) in
+        let e = encipher-inputs inst m idx wh wired (keyIn inst key) rec (inputs-of inst m key rec keyed b) in
         record { size = e .recLength; bit = e .recBit }

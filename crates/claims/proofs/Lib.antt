@@ -1,9 +1,11 @@
 pub mod Decides
 pub mod Accepted
-pub mod Ciphering
 pub mod Published
+pub mod Evaluating
 pub mod Scoring
 pub mod Metering
+pub mod Demands
+pub mod Ciphering
 pub mod Edges
 pub mod Replies
 pub mod Frames

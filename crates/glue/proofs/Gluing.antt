@@ -34,7 +34,7 @@ module _ (a b : List ℕ) (n : ℕ) (f : Fit a b n) where
   pub glued-outputs : outputsOf (gluedWords a b) ≡ outputsOf b
   glued-outputs = glue-outputs (netOf a) (netOf b) ∙ outs-length b (f .second)
 
-  fitting : length (netOf a .outs) ≡ netOf b .inputs
+  pub fitting : length (netOf a .outs) ≡ netOf b .inputs
   fitting = outs-length a (f .first) ∙ f .fits
 
   pub glued-sound : Sound (gluedWords a b)
