@@ -5,11 +5,10 @@ use denote.Ref.{now}
 use lib.ListN.{length}
 use Rattle.answer.specs.declared.Answer.{Answer}
 use Rattle.answer.specs.Answers.{_▹_}
-use Rattle.answer.specs.Bits.{bitsAnswer}
 use Rattle.answer.specs.Judges.{lengthAnswer, roomAnswer}
 use Rattle.answer.proofs.Rows.{stop, go}
 use Rattle.netlist.specs.declared.counts.Counts.{Counts}
-use Rattle.netlist.specs.Words.{countsOf, inputsOf, gatesOf, outputsOf}
+use Rattle.netlist.specs.Words.{countsOf, inputsOf, gatesOf}
 use Rattle.netlist.specs.Check.{netAnswer}
 use Rattle.evaluate.specs.Evaluate.{evaluateAnswer}
 use borrow.Author.Needs.{needs}
