@@ -4,10 +4,10 @@ use mathlib.Core.Path.{_≡_, refl, sym, ap, subst, _∙_}
 use mathlib.Core.List.{List, [], _∷_, _++_, map, append-assoc}
 use native.Mathlib.Omega.{arith}
 use native.Mathlib.Numerals.{add-one}
-use lib.ListN.{length, getD, set, take, drop, replicate, length-replicate, getD-replicate, replicate-append-replicate, length-drop, take-append-drop}
+use lib.ListN.{length, getD, set, take, drop, replicate, length-replicate, replicate-append-replicate, length-drop, take-append-drop}
 use lib.Seq.{drop-at, take-suc, take-length, take-append-seam, take-take, take-all, getD-drop}
 use Rattle.answer.specs.Fronts.{over}
-use Rattle.answer.proofs.Over.{over-next, over-at, over-over, length-over, take-over}
+use Rattle.answer.proofs.Over.{over-next, over-at, over-over, take-over}
 use Rattle.netlist.specs.declared.gate.Gate.{Gate}
 use Rattle.netlist.specs.declared.gate.Gate.the-variants.{Zero, One, Not, Xor, And, Mux}
 use Rattle.netlist.specs.Gates.{takenOf, gateWords, gateOf}

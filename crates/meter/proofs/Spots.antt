@@ -1,5 +1,5 @@
 -- The spots of a netlist's gates: the one place that knows which gates multiply. What is counted of them is what the rules count.
-use Prim.Native.Nat.{ℕ, zero, suc, _+_, _<_, _≤_}
+use Prim.Native.Nat.{ℕ, zero, suc, _+_, _≤_}
 use mathlib.Core.Path.{_≡_, refl, sym, ap, _∙_}
 use mathlib.Core.Bool.{Bool, true, false}
 use mathlib.Core.List.{List, [], _∷_, _++_, map}
@@ -13,8 +13,7 @@ use Rattle.netlist.specs.Gates.{takenOf, gateOf}
 use Rattle.netlist.specs.Net.{depths, mulOf, mulsOf, mults}
 use Rattle.netlist.specs.Words.{headerWords, inputsOf, gatesOf, gatePlace, gateAt, gatesAt, netOf}
 use Rattle.netlist.proofs.Words.{gates-snoc}
-use Rattle.meter.specs.declared.Spot.{Spot}
-use Rattle.meter.specs.Levels.{one, andKind, muxKind, ofKind, spotOf, sumOf, kindCount, levelCount, levels, total}
+use Rattle.meter.specs.Levels.{one, andKind, muxKind, ofKind, spotOf, kindCount, levelCount, levels, total}
 use Rattle.meter.specs.InnerLevels.{gained, Slight}
 use Rattle.meter.proofs.Depths.{gate-level}
 use Rattle.meter.proofs.Levels.{sum-none, sum-more, sum-add, total-ands, total-muxes}

@@ -1,5 +1,3 @@
-use mathlib.Core.Path.{_≡_}
-use Rattle.netlist.specs.Words.{countsOf}
 use Rattle.meter.proofs.Promise.{unmeasured-plan, roomless-plan, planned}
 use borrow.Author.Needs.{needs}
 use Rattle.meter.proofs.prepare.Statement.{statement}
