@@ -1,12 +1,10 @@
 -- What Done tells of a call, and what gives Done.
 use Prim.Native.Nat.{ℕ}
-use mathlib.Core.Path.{_≡_, ap}
-use mathlib.Core.Bool.{not}
+use mathlib.Core.Path.{_≡_}
 use mathlib.Core.List.{List}
-use borrow.Author.Tests.{ltb-false, eqb-true, not-false, le-ltb, eq-eqb}
 use Rattle.answer.specs.declared.Answer.the-variants.{Done}
-use Rattle.answer.proofs.Rows.{first-done, then-done, refuse-done, refuse-not, both}
-use Rattle.answer.proofs.Judges.{bits-done, done-bits}
+use Rattle.answer.proofs.Rows.{first-done, then-done, both}
+use Rattle.answer.proofs.Judges.{length-done, done-length, bits-done, done-bits, room-done, done-room}
 use Rattle.netlist.proofs.Accepted.{done-sound, sound-done}
 use Rattle.evaluate.specs.Evaluate.{evaluateAnswer}
 use Rattle.evaluate.specs.Ready.{Ready}
@@ -19,16 +17,15 @@ done-ready net inputs v o e =
     let e3 = then-done _ _ e2 in
     record {
       sound = done-sound 1 net (first-done _ _ e);
-      count = eqb-true _ _ (not-false _ (refuse-done 3 2 _ _ (first-done _ _ e1)));
+      count = length-done 2 _ _ (first-done _ _ e1);
       bits = bits-done 2 inputs (first-done _ _ e2);
-      values = ltb-false _ _ (refuse-done 8 3 _ _ (first-done _ _ e3));
-      outputs = ltb-false _ _ (refuse-done 8 4 _ _ (then-done _ _ e3));
+      values = room-done 3 _ _ (first-done _ _ e3);
+      outputs = room-done 4 _ _ (then-done _ _ e3);
     }
 
 pub ready-done : (net inputs : List ℕ) (v o : ℕ) → Ready net inputs v o → evaluateAnswer net inputs v o ≡ Done
 unfolding evaluateAnswer
 ready-done net inputs v o r =
     both (sound-done 1 net (r .sound))
-    (both (refuse-not _ _ _ (ap not (eq-eqb _ _ (r .count))))
-    (both (done-bits 2 inputs (r .bits))
-    (both (refuse-not _ _ _ (le-ltb _ _ (r .values))) (refuse-not _ _ _ (le-ltb _ _ (r .outputs))))))
+    (both (done-length 2 _ _ (r .count))
+    (both (done-bits 2 inputs (r .bits)) (both (done-room 3 _ _ (r .values)) (done-room 4 _ _ (r .outputs)))))

@@ -8,7 +8,7 @@ use lib.Dec.{eqb}
 use Rattle.answer.specs.Choose.{choose}
 use Rattle.netlist.specs.Gates.{takenOf, gateOf}
 use Rattle.netlist.specs.Net.{Each, step, valAlg}
-use Rattle.evaluate.specs.Truth.{truthAt}
+use Rattle.evaluate.specs.Inner.{truthAt}
 
 -- what holds of each of eight triples holds of all bits
 by-bits : (P : ℕ → ℕ → ℕ → Type 0) → P 0 0 0 → P 1 0 0 → P 0 1 0 → P 1 1 0 → P 0 0 1 → P 1 0 1 → P 0 1 1 → P 1 1 1

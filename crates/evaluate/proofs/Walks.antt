@@ -7,9 +7,10 @@ use native.Mathlib.Numerals.{add-one}
 use lib.ListN.{length, getD, set, take, drop, length-drop, length-map, length-take, take-append-drop}
 use lib.Seq.{length-take-le, take-suc, take-all, getD-drop, getD-take}
 use Rattle.answer.specs.Fronts.{over}
-use Rattle.answer.proofs.Over.{over-none, over-next, over-at, over-take, length-over, take-over, over-over}
+use Rattle.answer.proofs.Over.{over-none, over-next, over-at, length-over, take-over, over-over}
+use Rattle.netlist.specs.declared.gate.Gate.{Gate}
 use Rattle.netlist.specs.Net.{Uses, at, step, run, valAlg, values, eval}
-use Rattle.netlist.specs.Words.{inputsOf, gatesOf, outputsOf, gatePlace, gateAt, gatesAt, netOf}
+use Rattle.netlist.specs.Words.{headerWords, inputsOf, gatesOf, outputsOf, gatePlace, gateAt, gatesAt, netOf}
 use Rattle.netlist.proofs.Gates.{operands-low, taken-known}
 use Rattle.netlist.proofs.Sim.{run-append, run-length, step-front, each-map}
 use Rattle.answer.proofs.Judges.{bits-within}
@@ -17,65 +18,58 @@ use Rattle.netlist.proofs.Bits.{Bits, run-bits}
 use Rattle.netlist.proofs.Glued.{map-append, map-agree}
 use Rattle.netlist.proofs.Words.{gates-length, gates-snoc, outs-length, sound-valid}
 use Rattle.evaluate.specs.Ready.{Ready}
-use Rattle.evaluate.specs.Truth.{truthAt}
-use Rattle.evaluate.specs.Walks.{inputsPut, gatesPut, outputsPut, GatesFit, OutputsFit}
+use Rattle.evaluate.specs.Inner.{truthAt, gatesPut, outputsPut, GatesFit, OutputsFit}
 use Rattle.evaluate.proofs.Readings.{truth-right}
-
--- The inputs.
-module _ (inputs vals : List ℕ) where
-  pub inputs-none : vals ≡ inputsPut inputs 0 vals
-  unfolding inputsPut
-  inputs-none = sym (over-none vals)
-
-  pub inputs-more : (n : ℕ) → n < length inputs → length inputs ≤ length vals
-      → set (inputsPut inputs n vals) n (getD inputs n 0) ≡ inputsPut inputs (n + 1) vals
-  unfolding inputsPut
-  inputs-more n h l = over-take inputs vals n h l
-
-  pub inputs-all : (n : ℕ) → length inputs ≤ n → inputsPut inputs n vals ≡ over inputs vals
-  unfolding inputsPut
-  inputs-all n h = ap (λ (t : List ℕ). over t vals) (take-all n inputs h)
 
 -- The gates.
 module _ (net : List ℕ) (I : ℕ) (vals : List ℕ) where
-  front : (n : ℕ) → I ≤ length vals → length (run valAlg (take I vals) (gatesAt net 3 n)) ≡ I + n
+  front : (n : ℕ) → I ≤ length vals → length (run valAlg (take I vals) (gatesAt net headerWords n)) ≡ I + n
   front n h =
-      omega (arith, run-length valAlg (take I vals) (gatesAt net 3 n), gates-length net 3 n, length-take-le I vals h)
+      omega (arith, run-length valAlg (take I vals) (gatesAt net headerWords n), gates-length net headerWords n, length-take-le I vals h)
 
   pub gates-none : I ≤ length vals → vals ≡ gatesPut net I 0 vals
   unfolding gatesPut over
   gates-none h = rw (length-take-le I vals h) (sym (take-append-drop I vals))
 
-  pub gates-more : (n : ℕ) → I + n < length vals → Uses (I + n) (gateAt net (gatePlace n))
+  gates-more : (n : ℕ) → I + n < length vals → Uses (I + n) (gateAt net (gatePlace n))
       → set (gatesPut net I n vals) (I + n) (step valAlg (gatesPut net I n vals) (gateAt net (gatePlace n))) ≡ gatesPut net I (n + 1) vals
   unfolding gatesPut over
   gates-more n h u =
-      let p = run valAlg (take I vals) (gatesAt net 3 n) in
+      let p = run valAlg (take I vals) (gatesAt net headerWords n) in
       let g = gateAt net (gatePlace n) in
       let lp : length p ≡ I + n = front n (omega arith) in
       ap (set (over p vals) (I + n)) (step-front valAlg p (drop (length p) vals) g (rw lp u))
       ∙ over-next p vals (I + n) (step valAlg p g) lp h
       ∙ ap (λ (t : List ℕ). over t vals)
-      (sym (ap (run valAlg (take I vals)) (gates-snoc net 3 n) ∙ run-append valAlg (take I vals) (gatesAt net 3 n) (g ∷ [])))
+      (sym (ap (run valAlg (take I vals)) (gates-snoc net headerWords n) ∙ run-append valAlg (take I vals) (gatesAt net headerWords n) (g ∷ [])))
 
   -- a gate's value, read off its number
-  pub value-right : (G n : ℕ) → GatesFit net I G vals → n < G
+  value-right : (G n : ℕ) → GatesFit net I G vals → n < G
       → let cur = gatesPut net I n vals in
       truthAt (gateAt net (gatePlace n)) (getD cur (getD net (gatePlace n + 1) 0) 0) (getD cur (getD net (gatePlace n + 2) 0) 0) (getD cur (getD net (gatePlace n + 3) 0) 0)
       ≡ step valAlg cur (gateAt net (gatePlace n))
   unfolding gatesPut
   value-right G n f h =
-      let p = run valAlg (take I vals) (gatesAt net 3 n) in
+      let p = run valAlg (take I vals) (gatesAt net headerWords n) in
       let lp : length p ≡ I + n = front n (omega (arith, f .room)) in
       truth-right _ _ _ _ (over p vals)
       (each-map (gateAt net (gatePlace n))
-      (λ a l. rw (over-at p vals a (omega arith)) (run-bits (gatesAt net 3 n) (take I vals) (input-bits (f .bits)) a))
+      (λ a l. rw (over-at p vals a (omega arith)) (run-bits (gatesAt net headerWords n) (take I vals) (input-bits (f .bits)) a))
       (f .uses n h))
     where
       input-bits : ((i : ℕ) → i < I → getD vals i 0 ≤ 1) → Bits (take I vals)
       input-bits b =
           bits-within (take I vals)
           (λ i h. let l : i < I = omega (arith, length-take I vals) in rw (getD-take I vals i 0 l) (b i l))
+
+  -- a turn of the walk at gate n: cur stands, and v is the gate's value
+  pub gates-turn : (G n : ℕ) {cur : List ℕ} {gate : Gate} {v : ℕ} → GatesFit net I G vals → n < G
+      → cur ≡ gatesPut net I n vals → gate ≡ gateAt net (gatePlace n)
+      → v ≡ truthAt gate (getD cur (getD net (gatePlace n + 1) 0) 0) (getD cur (getD net (gatePlace n + 2) 0) 0) (getD cur (getD net (gatePlace n + 3) 0) 0)
+      → set cur (I + n) v ≡ gatesPut net I (n + 1) vals
+  gates-turn G n f h e k w =
+      rw (w, k, e)
+      (ap (set (gatesPut net I n vals) (I + n)) (value-right G n f h) ∙ gates-more n (omega (arith, f .room)) (f .uses n h))
 
 -- The outputs.
 module _ (net vals : List ℕ) (start : ℕ) (outs : List ℕ) where
@@ -129,7 +123,7 @@ module _ (net inputs : List ℕ) (v o : ℕ) (r : Ready net inputs v o) where
       → y ≡ over (values (netOf net) inputs) vals
   unfolding gatesPut
   all-values vals e f =
-      let gs = gatesAt net 3 (gatesOf net) in
+      let gs = gatesAt net headerWords (gatesOf net) in
       let t : take (inputsOf net) (over inputs vals) ≡ inputs = rw (r .count) at (take-over inputs vals) in
       rw (f, e, t) (over-over inputs (run valAlg inputs gs) vals (omega (arith, run-length valAlg inputs gs)))
 

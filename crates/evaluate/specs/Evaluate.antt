@@ -2,13 +2,12 @@
 -- Lists: 1 the netlist, 2 the inputs, 3 the values, 4 the outputs.
 use Prim.Native.Nat.{ℕ, _+_}
 use mathlib.Core.Path.{_≡_}
-use mathlib.Core.Bool.{not}
 use mathlib.Core.List.{List}
 use lib.ListN.{length}
-use lib.Dec.{ltb, eqb}
 use Rattle.answer.specs.declared.Answer.{Answer}
-use Rattle.answer.specs.Answers.{_▹_, refuse}
+use Rattle.answer.specs.Answers.{_▹_}
 use Rattle.answer.specs.Bits.{bitsAnswer}
+use Rattle.answer.specs.Judges.{lengthAnswer, roomAnswer}
 use Rattle.answer.specs.Fronts.{left}
 use Rattle.netlist.specs.Net.{values, eval}
 use Rattle.netlist.specs.Words.{inputsOf, gatesOf, outputsOf, netOf}
@@ -18,10 +17,10 @@ use Rattle.netlist.specs.Check.{netAnswer}
 unfoldable pub evaluateAnswer : List ℕ → List ℕ → ℕ → ℕ → Answer
 evaluateAnswer net inputs v o =
     netAnswer 1 net
-    ▹ refuse 3 2 (length inputs) (not (eqb (length inputs) (inputsOf net)))
+    ▹ lengthAnswer 2 (length inputs) (inputsOf net)
     ▹ bitsAnswer 2 inputs
-    ▹ refuse 8 3 v (ltb v (inputsOf net + gatesOf net))
-    ▹ refuse 8 4 o (ltb o (outputsOf net))
+    ▹ roomAnswer 3 v (inputsOf net + gatesOf net)
+    ▹ roomAnswer 4 o (outputsOf net)
 
 -- what a call that was lent net, inputs, vals and outs answers, and what it leaves in the last two
 pub record Evaluated (net inputs vals outs : List ℕ) (r : Answer) (vals′ outs′ : List ℕ) : Type 0 where

@@ -1,4 +1,3 @@
 pub mod Evaluate
 pub mod Ready
-pub mod Truth
-pub mod Walks
+pub mod Inner

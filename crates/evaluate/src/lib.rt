@@ -10,8 +10,7 @@ ghost use Prim.Native.Nat.{_≤_};
 ghost use lib.ListN.{length};
 ghost use Rattle.answer.specs.Fronts.{over};
 ghost use Rattle.evaluate.specs.Evaluate.{evaluateAnswer, Evaluated};
-ghost use Rattle.evaluate.specs.Truth.{truthOf, truthAt};
-ghost use Rattle.evaluate.specs.Walks.{gatesPut, outputsPut, GatesFit, OutputsFit};
+ghost use Rattle.evaluate.specs.Inner.{truthOf, truthAt, gatesPut, outputsPut, GatesFit, OutputsFit};
 
 // A gate's values as one number: bit x + 2y + 4z of it is the value where a, b and c carry x, y and z. Read
 // so and not by a branch, since kinds come in no order.
@@ -86,44 +85,30 @@ fn put_outputs(net: &[u32], values: &[u8], outputs: &mut [u8], start: usize, cou
     }
 }
 
+// 9, 3, 4, then 8 of the values and of the outputs.
 fn judge(net: &[u32], inputs: &[u8], value_room: usize, output_room: usize) -> Answer
     ensures { λ r. ⌜ r ≡ evaluateAnswer (now (net .entry)) (now (inputs .entry)) «value_room» «output_room» ⌝ }
 {
-    let r = netlist::check::check_as(net, 1);
-    let Answer::Done = r else {
-        return r;
+    let checked = netlist::check::check_as(net, 1);
+    let Answer::Done = checked else {
+        return checked;
     };
-    let len = inputs.len();
-    if len != net[0] as usize {
-        return Answer::Refused {
-            number: answer::LENGTH,
-            list: 2,
-            place: len,
-        };
-    }
-    let place = answer::first_no_bit(inputs);
-    if place < len {
-        return Answer::Refused {
-            number: answer::BIT,
-            list: 2,
-            place,
-        };
-    }
-    if value_room < net[0] as usize + net[1] as usize {
-        return Answer::Refused {
-            number: answer::ROOM,
-            list: 3,
-            place: value_room,
-        };
-    }
-    if output_room < net[2] as usize {
-        return Answer::Refused {
-            number: answer::ROOM,
-            list: 4,
-            place: output_room,
-        };
-    }
-    Answer::Done
+    let c = netlist::counts::counts_of(net);
+    let i = c.inputs as usize;
+    let g = c.gates as usize;
+    let counted = answer::exact(inputs.len(), i, 2);
+    let Answer::Done = counted else {
+        return counted;
+    };
+    let bits = answer::bits(inputs, 2);
+    let Answer::Done = bits else {
+        return bits;
+    };
+    let fits = answer::room(value_room, i + g, 3);
+    let Answer::Done = fits else {
+        return fits;
+    };
+    answer::room(output_room, c.outputs as usize, 4)
 }
 
 // A value for every wire, then the outputs.
@@ -134,9 +119,10 @@ pub fn evaluate(net: &[u32], inputs: &[u8], values: &mut [u8], outputs: &mut [u8
     let Answer::Done = r else {
         return r;
     };
-    let i = net[0] as usize;
-    let g = net[1] as usize;
-    let o = net[2] as usize;
+    let c = netlist::counts::counts_of(net);
+    let i = c.inputs as usize;
+    let g = c.gates as usize;
+    let o = c.outputs as usize;
     put_inputs(inputs, values);
     put_gates(net, values, i, g);
     put_outputs(net, values, outputs, HEADER_WORDS + GATE_STRIDE * g, o);

@@ -4,16 +4,15 @@ use mathlib.Core.Path.{_≡_, refl, sym, ap, subst, _∙_}
 use mathlib.Core.List.{List, [], _∷_, _++_, map, append-assoc}
 use native.Mathlib.Omega.{arith}
 use native.Mathlib.Numerals.{add-one}
-use lib.ListN.{length, getD, set, take, drop, replicate, length-replicate, getD-replicate, replicate-append-replicate, length-drop, take-append-drop}
+use lib.ListN.{length, getD, set, take, drop, replicate, length-replicate, replicate-append-replicate, length-drop, take-append-drop}
 use lib.Seq.{drop-at, take-suc, take-length, take-append-seam, take-take, take-all, getD-drop}
-use borrow.Author.Fill.{fill-more}
 use Rattle.answer.specs.Fronts.{over}
-use Rattle.answer.proofs.Over.{over-next, over-at, over-over, length-over, take-over}
+use Rattle.answer.proofs.Over.{over-next, over-at, over-over, take-over}
 use Rattle.netlist.specs.declared.gate.Gate.{Gate}
 use Rattle.netlist.specs.declared.gate.Gate.the-variants.{Zero, One, Not, Xor, And, Mux}
 use Rattle.netlist.specs.Gates.{takenOf, gateWords, gateOf}
 use Rattle.netlist.specs.Net.{Net, Alg, at, step, run, depAlg, maxOf, depths, depth, wiresOf, Uses}
-use Rattle.netlist.specs.Words.{inputsOf, gatesOf, gatePlace, gateAt, gatesAt, netOf}
+use Rattle.netlist.specs.Words.{headerWords, inputsOf, gatesOf, gatePlace, gateAt, gatesAt, netOf}
 use Rattle.netlist.specs.Check.{gateLimit}
 use Rattle.netlist.specs.Sound.{Sound}
 use Rattle.netlist.proofs.Gates.{operands-low}
@@ -21,25 +20,14 @@ use Rattle.netlist.proofs.Sim.{length-snoc, run-append, run-length, step-front}
 use Rattle.netlist.proofs.Glued.{map-append, map-agree, at-le-max}
 use Rattle.netlist.proofs.Words.{gates-length, gates-snoc, sound-valid}
 use Rattle.meter.specs.Levels.{levelCount}
-use Rattle.meter.specs.Passes.{depthsTo, Lent}
+use Rattle.meter.specs.InnerDepths.{depthsTo, Lent}
+use Rattle.meter.proofs.Fills.{fill-length, fill-at}
 
 -- Lists of zeros.
 zeros-le : (n k : ℕ) → getD (replicate n 0) k 0 ≤ 0
 zeros-le zero k = zero-le
 zeros-le (suc n) zero = zero-le
 zeros-le (suc n) (suc k) = zeros-le n k
-
-pub zeros-none : (old : List ℕ) → old ≡ over (replicate 0 0) old
-unfolding over
-zeros-none old = refl
-
-pub zeros-more : (n : ℕ) (old : List ℕ) {new : List ℕ} → new ≡ over (replicate n 0) old → n < length old → set new n 0 ≡ over (replicate (n + 1) 0) old
-unfolding over
-zeros-more n old e l =
-    ap (λ (t : List ℕ). set t n 0) e
-    ∙ ap (λ (k : ℕ). set (replicate n 0 ++ drop k old) n 0) (length-replicate n 0)
-    ∙ fill-more n 0 old l
-    ∙ ap (λ (k : ℕ). replicate (n + 1) 0 ++ drop k old) (sym (length-replicate (n + 1) 0))
 
 -- a front written over a list stands in it
 over-stands : {new : List ℕ} (front old : List ℕ) → new ≡ over front old → new ≡ over front new
@@ -49,13 +37,13 @@ over-stands front old e = rw e (sym (over-over front front old (omega arith)))
 pub depths-length : (net : List ℕ) (g : ℕ) → length (depthsTo net g) ≡ inputsOf net + g
 unfolding depthsTo
 depths-length net g =
-    omega (arith, run-length depAlg (replicate (inputsOf net) 0) (gatesAt net 3 g), gates-length net 3 g, length-replicate {A = ℕ} (inputsOf net) 0)
+    omega (arith, run-length depAlg (replicate (inputsOf net) 0) (gatesAt net headerWords g), gates-length net headerWords g, length-replicate {A = ℕ} (inputsOf net) 0)
 
 pub depths-more : (net : List ℕ) (g : ℕ) → depthsTo net (g + 1) ≡ depthsTo net g ++ step depAlg (depthsTo net g) (gateAt net (gatePlace g)) ∷ []
 unfolding depthsTo
 depths-more net g =
-    ap (run depAlg (replicate (inputsOf net) 0)) (gates-snoc net 3 g)
-    ∙ run-append depAlg (replicate (inputsOf net) 0) (gatesAt net 3 g) (gateAt net (gatePlace g) ∷ [])
+    ap (run depAlg (replicate (inputsOf net) 0)) (gates-snoc net headerWords g)
+    ∙ run-append depAlg (replicate (inputsOf net) 0) (gatesAt net headerWords g) (gateAt net (gatePlace g) ∷ [])
 
 step-le : (v : List ℕ) (m : ℕ) (g : Gate) → ((k : ℕ) → getD v k 0 ≤ m) → step depAlg v g ≤ m + 1
 step-le v m Zero h = omega arith
@@ -173,10 +161,7 @@ module _ {net : List ℕ} {i n : ℕ} {old : List ℕ} (s : Lent net i n old) (z
 
   wire-zero : getD out 0 0 ≡ 0
   wire-zero =
-      let o : getD old 0 0 ≡ 0 =
-      ap (λ (l : List ℕ). getD l 0 0) z
-      ∙ over-at (replicate (i + n) 0) old 0 (omega (arith, length-replicate {A = ℕ} (i + n) 0))
-      ∙ getD-replicate (i + n) 0 0 0 (omega arith) in
+      let o : getD old 0 0 ≡ 0 = ap (λ (l : List ℕ). getD l 0 0) z ∙ fill-at 0 old (i + n) 0 (omega arith) in
       rw e (over-flat (depthsTo net g) old (first-flat net (s .sound) g (omega (arith, there))) o)
 
   deep : max (getD out (getD net (gatePlace g + 1) 0) 0) (max (getD out (getD net (gatePlace g + 2) 0) 0) (getD out (getD net (gatePlace g + 3) 0) 0)) + getD net (gatePlace g) 0 / 4
@@ -255,13 +240,13 @@ pub outs-depth : (net old : List ℕ) → Sound net → maxOf (map (at depAlg (o
 outs-depth net old s =
     ap maxOf
     (map-agree _ _ (wiresOf (netOf net)) (netOf net .outs) (sound-valid net s .outs)
-    (λ i h. over-at (depths (netOf net)) old i (omega (arith, depths-count net, gates-length net 3 (gatesOf net)))))
+    (λ i h. over-at (depths (netOf net)) old i (omega (arith, depths-count net, gates-length net headerWords (gatesOf net)))))
 
 -- For the two passes that fill the depths: the first leaves what the second asks, and both together fill.
 module _ {net : List ℕ} {i g : ℕ} {ds mid : List ℕ} (s : Lent net i g ds) (e : mid ≡ over (replicate (i + g) 0) ds) where
   pub zeros-stand : Lent net i g mid × (mid ≡ over (replicate (i + g) 0) mid)
   zeros-stand =
-      let long : length mid ≡ length ds = ap length e ∙ length-over (replicate (i + g) 0) ds (omega (arith, length-replicate {A = ℕ} (i + g) 0, s .room)) in
+      let long : length mid ≡ length ds = ap length e ∙ fill-length 0 ds (i + g) (s .room) in
       (record { sound = s .sound; inputs = s .inputs; gates = s .gates; room = omega (arith, s .room) }, over-stands (replicate (i + g) 0) ds e)
 
   pub both-fill : {new : List ℕ} → new ≡ over (depthsTo net g) mid → new ≡ over (depthsTo net g) ds

@@ -4,17 +4,17 @@ use mathlib.Core.Path.{_≡_, refl, sym, ap, _∙_}
 use mathlib.Core.List.{List, map}
 use native.Mathlib.Omega.{arith}
 use lib.ListN.{length, getD, take, drop}
-use borrow.Author.Tests.{ltb-false}
 use Rattle.answer.specs.declared.Answer.{Answer}
 use Rattle.answer.specs.declared.Answer.the-variants.{Done, Refused}
 use Rattle.answer.specs.Fronts.{over}
-use Rattle.answer.proofs.Rows.{first-done, then-done, refuse-done, untold, told}
+use Rattle.answer.proofs.Rows.{first-done, then-done, untold, told}
+use Rattle.answer.proofs.Judges.{room-done}
 use Rattle.answer.proofs.Over.{length-over, kept, made}
 use Rattle.netlist.specs.Net.{at, depAlg, maxOf, depths}
 use Rattle.netlist.specs.Words.{inputsOf, gatesOf, outputsOf, gatePlace, netOf}
 use Rattle.netlist.proofs.Accepted.{done-sound}
 use Rattle.meter.specs.Meter.{depthsAnswer}
-use Rattle.meter.specs.Passes.{depthsTo, Lent, MeasuredAs}
+use Rattle.meter.specs.InnerDepths.{depthsTo, Lent, MeasuredAs}
 use Rattle.meter.proofs.Depths.{depths-length, depths-whole, top-level, outs-depth}
 
 pub judged-lent : {net ds : List ℕ} {r : Answer} → r ≡ depthsAnswer net (length ds) → r ≡ Done → Lent net (inputsOf net) (gatesOf net) ds
@@ -24,7 +24,7 @@ judged-lent {net} {ds} e d =
       sound = done-sound 1 net (first-done _ _ (sym e ∙ d));
       inputs = refl;
       gates = refl;
-      room = ltb-false _ _ (refuse-done _ _ _ _ (then-done _ _ (sym e ∙ d)));
+      room = room-done 2 _ _ (then-done _ _ (sym e ∙ d));
     }
 
 -- For the depths: not judged done, or filled and looked through.

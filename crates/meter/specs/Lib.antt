@@ -1,4 +1,4 @@
 pub mod Levels
 pub mod Meter
-pub mod Passes
-pub mod Counted
+pub mod InnerDepths
+pub mod InnerLevels

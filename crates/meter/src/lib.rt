@@ -13,12 +13,11 @@ ghost use lib.ListN.{length, getD, take, drop, replicate};
 ghost use lib.Dec.{eqb};
 ghost use Rattle.answer.specs.Fronts.{over};
 ghost use Rattle.netlist.specs.Net.{at, depAlg, maxOf};
-ghost use Rattle.netlist.specs.Words.{inputsOf, gatePlace};
 ghost use Rattle.netlist.specs.Check.{gateLimit};
-ghost use Rattle.meter.specs.Levels.{one, andKind, muxKind, kindCount, levelsBelow, overLevels};
+ghost use Rattle.meter.specs.Levels.{one, spotOf, levelsBelow};
 ghost use Rattle.meter.specs.Meter.{depthsAnswer, MeteredAs};
-ghost use Rattle.meter.specs.Passes.{depthsTo, Lent, MeasuredAs};
-ghost use Rattle.meter.specs.Counted.{noPlan, PlannedAs, spotOf, noGates, tallied, Countable, Tallies};
+ghost use Rattle.meter.specs.InnerDepths.{depthsTo, Lent, MeasuredAs};
+ghost use Rattle.meter.specs.InnerLevels.{noPlan, PlannedAs, noGates, tallied, gained, Stands, Tallies, Clears};
 
 // A level record: the AND gates and the MUX gates of one depth.
 #[repr(C)]
@@ -152,16 +151,8 @@ fn judge(net: &[u32], room: usize) -> Answer
     let Answer::Done = r else {
         return r;
     };
-    let i = net[0] as usize;
-    let g = net[1] as usize;
-    if room < i + g {
-        return Answer::Refused {
-            number: answer::ROOM,
-            list: 2,
-            place: room,
-        };
-    }
-    Answer::Done
+    let c = netlist::counts::counts_of(net);
+    answer::room(room, c.inputs as usize + c.gates as usize, 2)
 }
 
 // Judges up to the depths, and fills them where that is done.
@@ -176,9 +167,10 @@ fn measure(net: &[u32], depths: &mut [u32]) -> Measured
             levels: 0,
         };
     };
-    let i = net[0] as usize;
-    let g = net[1] as usize;
-    let o = net[2] as usize;
+    let c = netlist::counts::counts_of(net);
+    let i = c.inputs as usize;
+    let g = c.gates as usize;
+    let o = c.outputs as usize;
     put_depths(net, depths, i, g);
     let top = largest(depths, i + g);
     let deep = largest_output(net, depths, HEADER_WORDS + GATE_STRIDE * g, o);
@@ -217,26 +209,22 @@ fn prepare(net: &[u32], depths: &mut [u32], room: usize) -> Plan
         return refused(r);
     };
     let levels = p.levels;
-    if room < levels {
-        let short = Answer::Refused {
-            number: answer::ROOM,
-            list: 3,
-            place: room,
-        };
-        return refused(short);
-    }
-    let gates = net[1] as usize;
+    let fits = answer::room(room, levels, 3);
+    let Answer::Done = fits else {
+        return refused(fits);
+    };
+    let c = netlist::counts::counts_of(net);
     Plan {
         answer: Answer::Done,
         depth: p.depth,
-        gates,
+        gates: c.gates as usize,
         levels,
     }
 }
 
 // What gate g adds, and where.
 fn spot_of(net: &[u32], depths: &[u32], g: usize) -> Spot
-    requires { ⌜ (gatePlace g < length (now net)) × (inputsOf (now net) + g < length (now depths)) ⌝ }
+    requires { ⌜ Stands (now net) (now depths) g ⌝ }
     ensures { λ r. ⌜ r ≡ spotOf (now (net .entry)) (now (depths .entry)) g ⌝ }
 {
     let inputs = net[0] as usize;
@@ -255,7 +243,7 @@ fn spot_of(net: &[u32], depths: &[u32], g: usize) -> Spot
 // The first count records without gates.
 fn clear_levels(levels: &mut [Level], count: usize)
     requires { ⌜ count ≤ length (now levels) ⌝ }
-    ensures { λ _. ⌜ now (levels .exit) ≡ overLevels (replicate count noGates) (now (levels .entry)) ⌝ }
+    ensures { λ _. ⌜ now (levels .exit) ≡ over (replicate count noGates) (now (levels .entry)) ⌝ }
 {
     let mut l: usize = 0;
     while l < count {
@@ -264,10 +252,10 @@ fn clear_levels(levels: &mut [Level], count: usize)
     }
 }
 
-// Counts the AND and the MUX gates by depth, in one pass over levels that stand at 0, and all of them.
+// Counts the gates where their spots are, in one pass over levels that stand at 0, and sums up what multiplies.
 fn tally(net: &[u32], depths: &[u32], levels: &mut [Level], gates: usize) -> u32
     requires { ⌜ Tallies (now net) (now depths) gates (now levels) ⌝ }
-    ensures { λ r. ⌜ (r ≡ kindCount (now (net .entry)) andKind gates + kindCount (now (net .entry)) muxKind gates) × (now (levels .exit) ≡ tallied (now (net .entry)) (now (depths .entry)) gates (now (levels .entry))) ⌝ }
+    ensures { λ r. ⌜ (r ≡ gained (spotOf (now (net .entry)) (now (depths .entry))) gates) × (now (levels .exit) ≡ tallied (spotOf (now (net .entry)) (now (depths .entry))) gates (now (levels .entry))) ⌝ }
 {
     let mut n: u32 = 0;
     let mut g: usize = 0;
@@ -282,10 +270,10 @@ fn tally(net: &[u32], depths: &[u32], levels: &mut [Level], gates: usize) -> u32
     n
 }
 
-// The level records, cleared and counted, and how many gates they count.
+// The level records, cleared and counted, and what multiplies.
 fn put_levels(net: &[u32], depths: &[u32], levels: &mut [Level], gates: usize, count: usize) -> u32
-    requires { ⌜ (Countable (now net) (now depths) gates count) × (count ≤ length (now levels)) ⌝ }
-    ensures { λ r. ⌜ (r ≡ kindCount (now (net .entry)) andKind gates + kindCount (now (net .entry)) muxKind gates) × (now (levels .exit) ≡ overLevels (levelsBelow (now (net .entry)) (now (depths .entry)) gates count) (now (levels .entry))) ⌝ }
+    requires { ⌜ Clears (now net) (now depths) gates count (now levels) ⌝ }
+    ensures { λ r. ⌜ (r ≡ gained (spotOf (now (net .entry)) (now (depths .entry))) gates) × (now (levels .exit) ≡ over (levelsBelow (spotOf (now (net .entry)) (now (depths .entry))) gates count) (now (levels .entry))) ⌝ }
 {
     clear_levels(levels, count);
     tally(net, depths, levels, gates)

@@ -7,7 +7,7 @@ use lib.ListN.{length}
 use Rattle.answer.specs.Fronts.{over}
 use Rattle.answer.proofs.Over.{kept, made}
 use Rattle.netlist.specs.Net.{values}
-use Rattle.netlist.specs.Words.{netOf}
+use Rattle.netlist.specs.Words.{countsOf, netOf}
 use Rattle.evaluate.specs.Ready.{Ready}
 use Rattle.evaluate.proofs.Walks.{gates-fit, outputs-fit, all-values, all-outputs}
 use Rattle.evaluate.proofs.Accepted.{done-ready}
@@ -15,28 +15,44 @@ use borrow.Author.Needs.{needs}
 use Rattle.evaluate.proofs.evaluate.Statement.{statement}
 use Rattle.evaluate.proofs.evaluate.Tie as tie
 
--- What was lent; the call is accepted; the values after the walk over the gates.
-abbrev words : tie.After-enum-told → List ℕ
-words c = now (c .before .before .before .before .before .before .before .args .net)
+-- What was lent, before the judge was called; the call is accepted.
+abbrev words : tie.After-judge → List ℕ
+words c = now (c .before .before .before .before .before .args .net)
 
-abbrev bytes : tie.After-enum-told → List ℕ
-bytes c = now (c .before .before .before .before .before .before .before .args .inputs)
+abbrev bytes : tie.After-judge → List ℕ
+bytes c = now (c .before .before .before .before .before .args .inputs)
 
-abbrev vals : tie.After-enum-told → List ℕ
-vals c = now (c .before .before .before .before .before .before .before .args .values)
+abbrev vals : tie.After-judge → List ℕ
+vals c = now (c .before .before .before .before .before .args .values)
 
-abbrev outs : tie.After-enum-told → List ℕ
-outs c = now (c .before .before .before .before .before .before .before .args .outputs)
+abbrev outs : tie.After-judge → List ℕ
+outs c = now (c .before .before .before .before .before .args .outputs)
 
-ready : (c : tie.After-enum-told) → Ready (words c) (bytes c) (length (vals c)) (length (outs c))
-ready c = done-ready _ _ _ _ (sym (c .before .before .judge .ensures) ∙ c .enum-told .given .1)
+abbrev judged : tie.After-counts-of → tie.After-judge
+judged c = c .before .before .before
 
-abbrev accepted : tie.After-put-gates → tie.After-enum-told
-accepted c = c .before .before .before .before .before .before .before .before .before
+ready : (c : tie.After-counts-of) → Ready (words (judged c)) (bytes (judged c)) (length (vals (judged c))) (length (outs (judged c)))
+ready c = done-ready _ _ _ _ (sym (judged c .judge .ensures) ∙ c .before .enum-told .given .1)
 
-filled : (c : tie.After-put-gates)
-    → c .put-gates .last .1 .0 ≡ over (values (netOf (words (accepted c))) (bytes (accepted c))) (vals (accepted c))
-filled c = all-values _ _ _ _ (ready (accepted c)) _ (c .before .before .before .before .put-inputs .ensures) (c .put-gates .ensures)
+-- The counts, the inputs' values, then the gates' values.
+abbrev from-inputs : tie.After-put-inputs → tie.After-counts-of
+from-inputs c = c .before .before .before .before .before
+
+abbrev from-gates : tie.After-put-gates → tie.After-put-inputs
+from-gates c = c .before .before .before .before
+
+abbrev from-outputs : tie.After-put-outputs → tie.After-put-gates
+from-outputs c = c .before .before .before .before .before
+
+counted : (c : tie.After-counts-of) → c .counts-of .result ≡ countsOf (words (judged c))
+counted c = c .counts-of .ensures
+
+filled : (c : tie.After-put-gates) →
+    let j = judged (from-inputs (from-gates c)) in
+    c .put-gates .last .1 .0 ≡ over (values (netOf (words j)) (bytes j)) (vals j)
+filled c =
+    let k = from-inputs (from-gates c) in
+    all-values _ _ _ _ (ready k) _ (from-gates c .put-inputs .ensures) (rw (counted k) at (c .put-gates .ensures))
 
 judge-requires : tie.Need-judge-requires
 judge-requires c κs = search needs
@@ -49,46 +65,46 @@ enum-told-2 c = search needs
 
 returns : tie.Need-returns
 returns c =
-    let a = c .before .before .before .before .before .before .before .args in
+    let j = c .before .before in
     record {
-      answered = c .before .before .judge .ensures;
-      filled = kept _ (now (a .values)) (c .enum-told2 .given .1);
-      given = kept _ (now (a .outputs)) (c .enum-told2 .given .1);
+      answered = j .judge .ensures;
+      filled = kept _ (vals j) (c .enum-told2 .given .1);
+      given = kept _ (outs j) (c .enum-told2 .given .1);
     }
 
-shared-slice-read-i : tie.Need-shared-slice-read-i
-shared-slice-read-i c = omega (arith, ready (c .before) .sound)
+counts-of-requires : tie.Need-counts-of-requires
+counts-of-requires c κs = search needs
 
 cast-i : tie.Need-cast-i
-cast-i c = omega (arith, ready (c .before) .sound)
-
-shared-slice-read-g : tie.Need-shared-slice-read-g
-shared-slice-read-g c = omega (arith, ready (c .before .before) .sound)
+cast-i c = search needs
 
 cast-g : tie.Need-cast-g
-cast-g c = omega (arith, ready (c .before .before) .sound)
-
-shared-slice-read-o : tie.Need-shared-slice-read-o
-shared-slice-read-o c = omega (arith, ready (c .before .before .before) .sound)
+cast-g c = search needs
 
 cast-o : tie.Need-cast-o
-cast-o c = omega (arith, ready (c .before .before .before) .sound)
+cast-o c = search needs
 
 put-inputs-requires : tie.Need-put-inputs-requires
-put-inputs-requires c κs = omega (arith, ready (c .before .before .before .before))
+put-inputs-requires c κs =
+    let k = c .before .before .before .before in
+    omega (arith, ready k .count, ready k .values)
 
 put-gates-requires : tie.Need-put-gates-requires
 put-gates-requires c κs =
-    gates-fit _ _ _ _ (ready (c .before .before .before .before .before .before .before .before)) _ refl (c .before .before .before .put-inputs .ensures)
+    let p = c .before .before .before in
+    let k = from-inputs p in
+    rw (counted k) (gates-fit _ _ _ _ (ready k) _ refl (p .put-inputs .ensures))
 
 mul-put-outputs : tie.Need-mul-put-outputs
-mul-put-outputs c = omega (arith, ready (c .before .before .before .before .before .before .before .before .before .before .before .before .before) .sound)
+mul-put-outputs c = search needs
 
 add-put-outputs : tie.Need-add-put-outputs
-add-put-outputs c = omega (arith, ready (c .before .before .before .before .before .before .before .before .before .before .before .before .before) .sound)
+add-put-outputs c = search needs
 
 put-outputs-requires : tie.Need-put-outputs-requires
-put-outputs-requires c κs = outputs-fit _ _ _ _ (ready (c .before .before .before .before .before .before .before .before .before .before .before .before .before)) _ _ (omega arith) (omega arith)
+put-outputs-requires c κs =
+    let k = from-inputs (from-gates (c .before .before .before .before)) in
+    rw (counted k) (outputs-fit _ _ _ _ (ready k) _ _ (omega arith) (omega arith))
 
 same-length : tie.Need-same-length
 same-length c = search needs
@@ -98,12 +114,13 @@ same-length-2 c = search needs
 
 returns-2 : tie.Need-returns-2
 returns-2 c =
-    let d = c .before .before .before .before .before .before .before .before .before .before .before .before .before .before .before .before in
-    let v = filled (c .before .before .before .before .before .before .before) in
+    let p = c .before .before in
+    let k = from-inputs (from-gates (from-outputs p)) in
+    let v = filled (from-outputs p) in
     record {
-      answered = sym (d .enum-told .given .1) ∙ d .before .before .judge .ensures;
+      answered = sym (k .before .enum-told .given .1) ∙ judged k .judge .ensures;
       filled = v ∙ made _ _ refl;
-      given = all-outputs _ _ _ _ (ready d) _ _ v (c .before .before .put-outputs .ensures) ∙ made _ _ refl;
+      given = all-outputs _ _ _ _ (ready k) _ _ v (rw (counted k) at (p .put-outputs .ensures)) ∙ made _ _ refl;
     }
 
 pub evaluate-spec : {M : Type 1} → statement M
@@ -114,11 +131,9 @@ evaluate-spec =
     enum-told
     enum-told-2
     returns
-    shared-slice-read-i
+    counts-of-requires
     cast-i
-    shared-slice-read-g
     cast-g
-    shared-slice-read-o
     cast-o
     put-inputs-requires
     put-gates-requires

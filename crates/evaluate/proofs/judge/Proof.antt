@@ -1,48 +1,60 @@
-use Prim.Native.Nat.{ℕ}
-use mathlib.Core.Path.{_≡_, refl, sym, ap, _∙_}
-use mathlib.Core.Bool.{not}
+use Prim.Native.Nat.{ℕ, _+_}
+use mathlib.Core.Path.{_≡_, ap, _∙_}
 use mathlib.Core.List.{List}
-use native.Mathlib.Omega.{arith}
-use borrow.Author.Tests.{lt-ltb, le-ltb, eq-eqb, ne-eqb}
 use denote.Ref.{now}
 use lib.ListN.{length}
-use lib.Dec.{eqb}
 use Rattle.answer.specs.declared.Answer.{Answer}
-use Rattle.answer.specs.Answers.{_▹_, refuse}
-use Rattle.answer.specs.Bits.{bitsAnswer}
-use Rattle.answer.proofs.Rows.{stop, go, pass, refuse-yes, refuse-not}
-use Rattle.netlist.specs.Words.{inputsOf}
+use Rattle.answer.specs.Answers.{_▹_}
+use Rattle.answer.specs.Judges.{lengthAnswer, roomAnswer}
+use Rattle.answer.proofs.Rows.{stop, go}
+use Rattle.netlist.specs.declared.counts.Counts.{Counts}
+use Rattle.netlist.specs.Words.{countsOf, inputsOf, gatesOf}
 use Rattle.netlist.specs.Check.{netAnswer}
-use Rattle.netlist.specs.Sound.{Sound}
-use Rattle.netlist.proofs.Accepted.{done-sound}
 use Rattle.evaluate.specs.Evaluate.{evaluateAnswer}
-use Rattle.answer.proofs.Search.{bits-stop, bits-go}
 use borrow.Author.Needs.{needs}
 use Rattle.evaluate.proofs.judge.Statement.{statement}
 use Rattle.evaluate.proofs.judge.Tie as tie
 
--- What is known once the netlist, the inputs' number and the inputs' bits have passed: the row goes on.
-abbrev words : tie.After-enum-told → List ℕ
-words c = now (c .before .before .before .before .before .args .net)
+-- The places of the walk, from the room for the values back to the start.
+abbrev from-counts : tie.After-counts-of → tie.After-check-as
+from-counts c = c .before .before .before
 
-abbrev bytes : tie.After-enum-told → List ℕ
-bytes c = now (c .before .before .before .before .before .args .inputs)
+abbrev from-exact : tie.After-exact → tie.After-counts-of
+from-exact c = c .before .before .before
 
-abbrev numbered : tie.After-enum-told → Answer
-numbered c = refuse 3 2 (length (bytes c)) (not (eqb (length (bytes c)) (inputsOf (words c))))
+abbrev from-bits : tie.After-bits → tie.After-exact
+from-bits c = c .before .before .before
 
-sound : (c : tie.After-enum-told) → Sound (words c)
-sound c = done-sound 1 _ (sym (c .before .before .check-as .ensures) ∙ c .enum-told .given .1)
+abbrev from-room : tie.After-room → tie.After-bits
+from-room c = c .before .before .before
 
-checked : (c : tie.After-enum-told) {s b : Answer} → s ≡ b → s ≡ netAnswer 1 (words c) ▹ b
-checked c e = go (c .before .before .check-as .ensures) (c .enum-told .given .1) e
+-- What was lent, and the netlist's counts.
+abbrev words : tie.After-counts-of → List ℕ
+words c = now (from-counts c .before .before .before .args .net)
 
-counted : (c : tie.Else1) {s b : Answer} → s ≡ b → s ≡ netAnswer 1 (words (c .before .before)) ▹ numbered (c .before .before) ▹ b
-counted c e = checked (c .before .before) (pass (refuse-not _ _ _ (ap not (eq-eqb _ _ (c .if1 .left)))) e)
+abbrev bytes : tie.After-counts-of → List ℕ
+bytes c = now (from-counts c .before .before .before .args .inputs)
 
-all-bits : (c : tie.Else2) {s b : Answer} → s ≡ b
-    → s ≡ netAnswer 1 (words (c .before .before .before .before)) ▹ numbered (c .before .before .before .before) ▹ bitsAnswer 2 (bytes (c .before .before .before .before)) ▹ b
-all-bits c e = counted (c .before .before) (pass (bits-go _ _ _ (c .before .first-no-bit .ensures) (c .if2 .left)) e)
+-- for the values and for the outputs
+abbrev rooms : tie.After-counts-of → ℕ × ℕ
+rooms c = (from-counts c .before .before .before .args .value-room, from-counts c .before .before .before .args .output-room)
+
+counted : (c : tie.After-counts-of) → c .counts-of .result ≡ countsOf (words c)
+counted c = c .counts-of .ensures
+
+-- The judges, in order: each is that of the netlist's counts, and where it is done the row goes on.
+checked : (c : tie.After-counts-of) {s b : Answer} → s ≡ b → s ≡ netAnswer 1 (words c) ▹ b
+checked c e = go (from-counts c .check-as .ensures) (c .before .enum-told .given .1) e
+
+numbered : (c : tie.After-exact) → c .exact .result ≡ lengthAnswer 2 (length (bytes (from-exact c))) (inputsOf (words (from-exact c)))
+numbered c = c .exact .ensures ∙ ap (λ (k : Counts). lengthAnswer 2 (length (bytes (from-exact c))) (k .inputs)) (counted (from-exact c))
+
+fits : (c : tie.After-room)
+    → let k = from-exact (from-bits (from-room c)) in
+    c .room .result ≡ roomAnswer 3 (rooms k .0) (inputsOf (words k) + gatesOf (words k))
+fits c =
+    let k = from-exact (from-bits (from-room c)) in
+    c .room .ensures ∙ ap (λ (n : Counts). roomAnswer 3 (rooms k .0) (n .inputs + n .gates)) (counted k)
 
 check-as-requires : tie.Need-check-as-requires
 check-as-requires c κs = search needs
@@ -57,60 +69,85 @@ returns : tie.Need-returns
 unfolding evaluateAnswer
 returns c = stop _ (c .before .before .check-as .ensures) (c .enum-told2 .given .1)
 
-shared-slice-read-if1 : tie.Need-shared-slice-read-if1
-shared-slice-read-if1 c = omega (arith, sound (c .before))
+counts-of-requires : tie.Need-counts-of-requires
+counts-of-requires c κs = search needs
 
-cast-if1 : tie.Need-cast-if1
-cast-if1 c = omega (arith, sound (c .before))
+cast-i : tie.Need-cast-i
+cast-i c = search needs
+
+cast-g : tie.Need-cast-g
+cast-g c = search needs
+
+exact-requires : tie.Need-exact-requires
+exact-requires c κs = search needs
+
+enum-told-3 : tie.Need-enum-told-3
+enum-told-3 c = search needs
+
+enum-told-4 : tie.Need-enum-told-4
+enum-told-4 c = search needs
 
 returns-2 : tie.Need-returns-2
 unfolding evaluateAnswer
-returns-2 c = checked (c .before .before) (stop _ (refuse-yes _ _ _ (ap not (ne-eqb _ _ (c .if1 .taken)))) refl)
+returns-2 c =
+    let x = c .before .before in
+    checked (from-exact x) (stop _ (numbered x) (c .enum-told4 .given .1))
 
-first-no-bit-requires : tie.Need-first-no-bit-requires
-first-no-bit-requires c κs = search needs
+bits-requires : tie.Need-bits-requires
+bits-requires c κs = search needs
+
+enum-told-5 : tie.Need-enum-told-5
+enum-told-5 c = search needs
+
+enum-told-6 : tie.Need-enum-told-6
+enum-told-6 c = search needs
 
 returns-3 : tie.Need-returns-3
 unfolding evaluateAnswer
-returns-3 c = counted (c .before .before) (stop _ (bits-stop _ _ _ (c .before .first-no-bit .ensures) (c .if2 .taken)) refl)
+returns-3 c =
+    let b = c .before .before in
+    let x = from-bits b in
+    checked (from-exact x) (go (numbered x) (b .before .enum-told3 .given .1) (stop _ (b .bits .ensures) (c .enum-told6 .given .1)))
 
-shared-slice-read-if3 : tie.Need-shared-slice-read-if3
-shared-slice-read-if3 c = omega (arith, sound (c .before .before .before .before .before))
+add-room : tie.Need-add-room
+add-room c = search needs
 
-cast-if3 : tie.Need-cast-if3
-cast-if3 c = omega (arith, sound (c .before .before .before .before .before))
+room-requires : tie.Need-room-requires
+room-requires c κs = search needs
 
-shared-slice-read-if3-2 : tie.Need-shared-slice-read-if3-2
-shared-slice-read-if3-2 c = omega (arith, sound (c .before .before .before .before .before .before))
+enum-told-7 : tie.Need-enum-told-7
+enum-told-7 c = search needs
 
-cast-if3-2 : tie.Need-cast-if3-2
-cast-if3-2 c = omega (arith, sound (c .before .before .before .before .before .before))
-
-add-if3 : tie.Need-add-if3
-add-if3 c = omega (arith, sound (c .before .before .before .before .before .before))
+enum-told-8 : tie.Need-enum-told-8
+enum-told-8 c = search needs
 
 returns-4 : tie.Need-returns-4
 unfolding evaluateAnswer
-returns-4 c = all-bits (c .before .before .before) (stop _ (refuse-yes _ _ _ (lt-ltb _ _ (c .if3 .taken))) refl)
+returns-4 c =
+    let v = c .before .before in
+    let b = from-room v in
+    let x = from-bits b in
+    checked (from-exact x)
+    (go (numbered x) (b .before .enum-told3 .given .1)
+    (go (b .bits .ensures) (v .before .enum-told5 .given .1) (stop _ (fits v) (c .enum-told8 .given .1))))
 
-shared-slice-read-if4 : tie.Need-shared-slice-read-if4
-shared-slice-read-if4 c = omega (arith, sound (c .before .before .before .before .before .before .before .before))
+cast-room : tie.Need-cast-room
+cast-room c = search needs
 
-cast-if4 : tie.Need-cast-if4
-cast-if4 c = omega (arith, sound (c .before .before .before .before .before .before .before .before))
+room-requires-2 : tie.Need-room-requires-2
+room-requires-2 c κs = search needs
 
 returns-5 : tie.Need-returns-5
 unfolding evaluateAnswer
 returns-5 c =
-    let k = c .before .before in
-    all-bits (k .before .before .before) (pass (refuse-not _ _ _ (le-ltb _ _ (k .if3 .left))) (refuse-yes _ _ _ (lt-ltb _ _ (c .if4 .taken))))
-
-returns-6 : tie.Need-returns-6
-unfolding evaluateAnswer
-returns-6 c =
-    let k = c .before .before in
-    all-bits (k .before .before .before)
-    (pass (refuse-not _ _ _ (le-ltb _ _ (k .if3 .left))) (sym (refuse-not _ _ _ (le-ltb _ _ (c .if4 .left)))))
+    let v = c .before .before .before .before in
+    let b = from-room v in
+    let x = from-bits b in
+    checked (from-exact x)
+    (go (numbered x) (b .before .enum-told3 .given .1)
+    (go (b .bits .ensures) (v .before .enum-told5 .given .1)
+    (go (fits v) (c .before .before .enum-told7 .given .1)
+    (c .room2 .ensures ∙ ap (λ (k : Counts). roomAnswer 4 (rooms (from-exact x) .1) (k .outputs)) (counted (from-exact x))))))
 
 pub judge-spec : {M : Type 1} → statement M
 judge-spec =
@@ -120,18 +157,22 @@ judge-spec =
     enum-told
     enum-told-2
     returns
-    shared-slice-read-if1
-    cast-if1
+    counts-of-requires
+    cast-i
+    cast-g
+    exact-requires
+    enum-told-3
+    enum-told-4
     returns-2
-    first-no-bit-requires
+    bits-requires
+    enum-told-5
+    enum-told-6
     returns-3
-    shared-slice-read-if3
-    cast-if3
-    shared-slice-read-if3-2
-    cast-if3-2
-    add-if3
+    add-room
+    room-requires
+    enum-told-7
+    enum-told-8
     returns-4
-    shared-slice-read-if4
-    cast-if4
-    returns-5
-    returns-6)
+    cast-room
+    room-requires-2
+    returns-5)

@@ -1,12 +1,12 @@
-use Prim.Native.Nat.{_+_, _≤_, _-_}
-use lib.ListN.{getD, set, length}
+use Prim.Native.Nat.{ℕ, _+_, _≤_, _-_}
+use lib.ListN.{getD, length}
 use Rattle.netlist.specs.declared.gate.Taken.the-variants.{Valid}
 use Rattle.netlist.specs.Words.{gatePlace, gateAt}
 use Rattle.netlist.proofs.Gates.{not-unknown, same-gate}
-use mathlib.Core.Path.{_≡_, ap, _∙_}
+use mathlib.Core.Path.{_≡_, _∙_}
 use native.Mathlib.Omega.{arith}
-use Rattle.evaluate.specs.Walks.{gatesPut}
-use Rattle.evaluate.proofs.Walks.{gates-none, gates-more, value-right}
+use Rattle.evaluate.specs.Inner.{gatesPut}
+use Rattle.evaluate.proofs.Walks.{gates-none, gates-turn}
 use borrow.Author.Needs.{needs}
 use Rattle.evaluate.proofs.put_gates.Statement.{statement}
 use Rattle.evaluate.proofs.put_gates.Tie as tie
@@ -17,17 +17,30 @@ Inv-loop net values₀ inputs gates g₀ values g = (g ≤ gates) × (values ≡
 abbrev μ-loop : tie.MeasureT-loop
 μ-loop net values₀ inputs gates g₀ values g = gates - g
 
+-- Where a gate was taken apart; the turn in which that was, its number, and what was lent.
+abbrev taken : tie.After-known-told Inv-loop μ-loop → tie.After-take-apart Inv-loop μ-loop
+taken c = c .before .before .before
+
+abbrev turn : tie.After-take-apart Inv-loop μ-loop → tie.In-loop Inv-loop μ-loop
+turn c = c .before .before .before .before .before
+
+abbrev number : tie.In-loop Inv-loop μ-loop → ℕ
+number c = c .before .loop .g
+
+abbrev start : tie.In-loop Inv-loop μ-loop → tie.Start Inv-loop μ-loop
+start c = c .before .before .before .before
+
 -- no operand word is past the gate's own wire
 low : (c : tie.After-take-apart Inv-loop μ-loop) →
-    let l = c .before .before .before .before .before .before .loop in
-    let a = c .before .before .before .before .before .before .before .before .before .args in
-    let w = a .inputs + l .g in
-    (getD (a .net .now) (gatePlace (l .g) + 1) 0 ≤ w) × (getD (a .net .now) (gatePlace (l .g) + 2) 0 ≤ w) × (getD (a .net .now) (gatePlace (l .g) + 3) 0 ≤ w)
-low c = c .before .before .before .before .before .before .before .before .before .pre .low _ (c .before .before .before .before .before .loop-test .taken)
+    let net = start (turn c) .args .net .now in
+    let at = gatePlace (number (turn c)) in
+    let w = start (turn c) .args .inputs + number (turn c) in
+    (getD net (at + 1) 0 ≤ w) × (getD net (at + 2) 0 ≤ w) × (getD net (at + 3) 0 ≤ w)
+low c = start (turn c) .pre .low _ (turn c .loop-test .taken)
 
 -- the gate at the loop's place is of a known kind
-known : (c : tie.After-take-apart Inv-loop μ-loop) → c .take-apart .result ≡ Valid (gateAt (c .before .before .before .before .before .before .before .before .before .args .net .now) (gatePlace (c .before .before .before .before .before .before .loop .g)))
-known c = c .take-apart .ensures ∙ c .before .before .before .before .before .before .before .before .before .pre .known _ (c .before .before .before .before .before .loop-test .taken)
+known : (c : tie.After-take-apart Inv-loop μ-loop) → c .take-apart .result ≡ Valid (gateAt (start (turn c) .args .net .now) (gatePlace (number (turn c))))
+known c = c .take-apart .ensures ∙ start (turn c) .pre .known _ (turn c .loop-test .taken)
 
 loop-holds : tie.Need-loop-holds Inv-loop μ-loop
 loop-holds c = (search needs, gates-none _ _ _ (omega arith), search needs)
@@ -87,22 +100,22 @@ returns : tie.Need-returns Inv-loop μ-loop
 returns c = absurd (not-unknown (known (c .before .before)) (c .enum-told .given .1))
 
 cast-i : tie.Need-cast-i Inv-loop μ-loop
-cast-i c = omega (arith, low (c .before .before .before))
+cast-i c = omega (arith, low (taken c))
 
 cast-j : tie.Need-cast-j Inv-loop μ-loop
-cast-j c = omega (arith, low (c .before .before .before))
+cast-j c = omega (arith, low (taken c))
 
 cast-k : tie.Need-cast-k Inv-loop μ-loop
-cast-k c = omega (arith, low (c .before .before .before))
+cast-k c = omega (arith, low (taken c))
 
 slice-read-value : tie.Need-slice-read-value Inv-loop μ-loop
-slice-read-value c = omega (arith, low (c .before .before .before .before))
+slice-read-value c = omega (arith, low (taken (c .before)))
 
 slice-read-value-2 : tie.Need-slice-read-value-2 Inv-loop μ-loop
-slice-read-value-2 c = omega (arith, low (c .before .before .before .before .before))
+slice-read-value-2 c = omega (arith, low (taken (c .before .before)))
 
 slice-read-value-3 : tie.Need-slice-read-value-3 Inv-loop μ-loop
-slice-read-value-3 c = omega (arith, low (c .before .before .before .before .before .before))
+slice-read-value-3 c = omega (arith, low (taken (c .before .before .before)))
 
 value-requires : tie.Need-value-requires Inv-loop μ-loop
 value-requires c κs = search needs
@@ -121,13 +134,10 @@ loop-less c = search needs
 
 loop-again : tie.Need-loop-again Inv-loop μ-loop
 loop-again c =
-    let k = c .before .before .before .before .before .before .before in
-    let t = k .before .before .before .before .before in
-    let l = t .before .loop in
-    let s = t .before .before .before .before in (
+    let d = c .before .before .before .before in
+    let t = turn (taken d) in (
       search needs,
-      rw (c .value .ensures, same-gate (c .before .before .before .before .before .t .given .1) (known k), l .inv .1)
-          (ap (set (gatesPut (s .args .net .now) (s .args .inputs) (l .g) (s .args .values .now)) (s .args .inputs + l .g)) (value-right _ _ _ (s .args .gates) (l .g) (s .pre) (t .loop-test .taken)) ∙ gates-more _ _ _ _ (omega arith) (s .pre .uses _ (t .loop-test .taken))),
+      gates-turn _ _ _ _ _ (start t .pre) (t .loop-test .taken) (t .before .loop .inv .1) (same-gate (d .before .t .given .1) (known (taken d))) (c .value .ensures),
       search needs,
     )
 

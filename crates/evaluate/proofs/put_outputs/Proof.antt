@@ -2,7 +2,7 @@ use Prim.Native.Nat.{_+_, _≤_, _-_}
 use mathlib.Core.Path.{_≡_}
 use native.Mathlib.Omega.{arith}
 use lib.ListN.{length}
-use Rattle.evaluate.specs.Walks.{outputsPut}
+use Rattle.evaluate.specs.Inner.{outputsPut}
 use Rattle.evaluate.proofs.Walks.{outputs-none, outputs-more}
 use borrow.Author.Needs.{needs}
 use Rattle.evaluate.proofs.put_outputs.Statement.{statement}

@@ -1,4 +1,4 @@
-use Rattle.evaluate.specs.Truth.{truthAt}
+use Rattle.evaluate.specs.Inner.{truthAt}
 use borrow.Author.Needs.{needs}
 use Rattle.evaluate.proofs.value.Statement.{statement}
 use Rattle.evaluate.proofs.value.Tie as tie

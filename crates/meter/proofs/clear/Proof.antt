@@ -4,7 +4,7 @@ use mathlib.Core.Path.{_≡_}
 use native.Mathlib.Nat.{le-antisymm}
 use lib.ListN.{length, replicate}
 use Rattle.answer.specs.Fronts.{over}
-use Rattle.meter.proofs.Depths.{zeros-none, zeros-more}
+use Rattle.meter.proofs.Fills.{fill-none, fill-next}
 use borrow.Author.Needs.{needs}
 use Rattle.meter.proofs.clear.Statement.{statement}
 use Rattle.meter.proofs.clear.Tie as tie
@@ -16,7 +16,7 @@ abbrev μ-loop : tie.MeasureT-loop
 μ-loop list₀ count i₀ list i = count - i
 
 loop-holds : tie.Need-loop-holds Inv-loop μ-loop
-loop-holds c = (search needs, search needs, zeros-none _)
+loop-holds c = (search needs, search needs, fill-none 0 _)
 
 mul-list : tie.Need-mul-list Inv-loop μ-loop
 mul-list c = search needs
@@ -33,7 +33,7 @@ loop-less c = search needs
 loop-again : tie.Need-loop-again Inv-loop μ-loop
 loop-again c =
     let v = c .before .loop .inv in
-    (search needs, search needs, zeros-more _ _ (v .2) (omega arith))
+    (search needs, search needs, fill-next 0 _ _ (v .2) (omega arith))
 
 same-length : tie.Need-same-length Inv-loop μ-loop
 same-length c = c .before .loop .inv .1

@@ -1,6 +1,6 @@
 -- `clear_levels` meets its contract: a walk of its MIR, by hand, since the slice holds structs. After i turns it holds `zs i`, the first i records cleared over the list on entry.
 -- A turn opens the borrow, stores a record without gates, and closes the borrow at `zs (suc i)`. The variant is what is left of `count`.
-use mathlib.Core.Path.{_≡_, refl, sym, ap, subst}
+use mathlib.Core.Path.{_≡_, refl, sym, ap, subst, _∙_}
 use mathlib.Core.Bool.{Bool, true, false}
 use Prim.Native.Nat.{ℕ, suc, _<_, _≤_, _^_, _*_, _+_, _-_}
 use native.Mathlib.Numerals.{add-one}
@@ -46,9 +46,9 @@ use denote.Triple.Table.{entered}
 use denote.Triple.Walked.{says, needs, Stays, stay-slice, stay-none, walkOf, goes-slice, goes-none, Walks, ends-at, walked, walk-meets}
 use denote.Exit.{yes}
 use Rattle.meter.specs.declared.Level.{Level}
-use Rattle.meter.specs.Levels.{overLevels}
-use Rattle.meter.specs.Counted.{noGates}
-use Rattle.meter.proofs.Levels.{clear-none, clear-more, length-cleared}
+use Rattle.answer.specs.Fronts.{over}
+use Rattle.meter.specs.InnerLevels.{noGates}
+use Rattle.meter.proofs.Fills.{fill-none, fill-next, fill-length}
 use Rattle.meter.proofs.Level as T
 use Rattle.meter.proofs.Level.Laws as T′
 use Rattle.meter.proofs.clear_levels.Key.{name as #meter·clear-levels}
@@ -71,10 +71,10 @@ module _ {M : Type 1} (𝓤 : URA M) (H : Heap 𝓤) (A : Atoms 𝓤) (W : Given
   x l = record { ptr = (b, o); name = γ; now = l }
 
   abbrev zs : ℕ → List Level
-  zs i = overLevels (replicate i noGates) olds
+  zs i = over (replicate i noGates) olds
 
   length-zs : (i : ℕ) → i ≤ count → length (zs i) ≡ length olds
-  length-zs i l = length-cleared i olds (omega arith)
+  length-zs i l = fill-length noGates olds i (omega arith)
 
   abbrev Arg : Type 0
   Arg = RefT (List Level) × (ℕ × Unit {0})
@@ -144,7 +144,7 @@ module _ {M : Type 1} (𝓤 : URA M) (H : Heap 𝓤) (A : Atoms 𝓤) (W : Given
           let next-fits : i + 1 < 2 ^ 64 = omega arith in
           let far : i * 8 < 2 ^ 64 = omega (arith, room .1) in
           let inside : i < length (zs i) = omega (arith, length-zs i (omega arith)) in
-          let stored = clear-more i olds (omega arith) in
+          let stored = fill-next noGates olds i refl (omega arith) ∙ ap zs (add-one i) in
           qed W (At i) ∵ exec ! C Λ En body.turn-1 (anyQ (afterTurn 𝓤 H X Left)) $
           assigns ! (bin ! (load ! (from ! (stop !)) (look ! 5 refl)) (load ! (from ! (stop !)) (look ! 4 refl)) tt) (from ! (stop !)) (init ! 6 refl (tt, tt)) $
           rewrite ! 6 (λ (t : Bool). ‵ (fat fullShare tyBool l₄ 0 (vbool t))) (lt-ltb i count small) refl $
@@ -215,7 +215,7 @@ module _ {M : Type 1} (𝓤 : URA M) (H : Heap 𝓤) (A : Atoms 𝓤) (W : Given
         move ! (20 ∷ []) $ split ! $
         -- [the token; true; obs; the borrow; the slice's fact; count's; _7; …; _0; …]
         keep ! (2 ∷ 3 ∷ 0 ∷ 18 ∷ 16 ∷ 14 ∷ 12 ∷ 10 ∷ 8 ∷ 6 ∷ 20 ∷ 21 ∷ 19 ∷ 17 ∷ 15 ∷ 13 ∷ 11 ∷ 9 ∷ 7 ∷ []) $
-        rewrite ! 0 Obs (clear-none olds) refl $ rewrite ! 1 Bor (clear-none olds) refl $ by ! (loops l₀ l₁ l₂ l₃ l₄ l₅ l₆ l₇)))))))))
+        rewrite ! 0 Obs (fill-none noGates olds) refl $ rewrite ! 1 Bor (fill-none noGates olds) refl $ by ! (loops l₀ l₁ l₂ l₃ l₄ l₅ l₆ l₇)))))))))
 
 module _ {M : Type 1} (𝓤 : URA M) (H : Heap 𝓤) (A : Atoms 𝓤) (W : Given 𝓤 H A) (mem : Memory → SProp 𝓤) (run : Routine → Fun 𝓤) where
   clear-levels-walks : (𝓣 : Tables 𝓤 H) → Walks 𝓤 H A f.ended stayed (WpFn 𝓤 H (𝓣 .C) (𝓣 .Λ) code.function) (f.clauses 𝓤 H A mem run)

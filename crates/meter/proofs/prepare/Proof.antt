@@ -1,14 +1,11 @@
-use native.Mathlib.Omega.{arith}
-use denote.Ref.{now}
-use Rattle.netlist.specs.Sound.{Sound}
-use Rattle.meter.proofs.Promise.{unmeasured-plan, roomless-plan, lent, planned}
+use Rattle.meter.proofs.Promise.{unmeasured-plan, roomless-plan, planned}
 use borrow.Author.Needs.{needs}
 use Rattle.meter.proofs.prepare.Statement.{statement}
 use Rattle.meter.proofs.prepare.Tie as tie
 
--- the depths were judged and filled
-accepted : (c : tie.After-enum-told) → Sound (now (c .before .before .before .before .before .before .before .before .args .net))
-accepted c = lent (c .before .before .before .before .measure .ensures) (c .enum-told .given .1) .sound
+-- The places of the walk: from the judge of the room back to the depths that were measured.
+abbrev from-room : tie.After-room → tie.After-measure
+from-room c = c .before .before .before .before .before
 
 measure-requires : tie.Need-measure-requires
 measure-requires c κs = search needs
@@ -28,6 +25,15 @@ same-length c = search needs
 returns : tie.Need-returns
 returns c = unmeasured-plan (c .before .before .before .before .before .measure .ensures) (c .before .enum-told2 .given .1) (c .refused .ensures)
 
+room-requires : tie.Need-room-requires
+room-requires c κs = search needs
+
+enum-told-3 : tie.Need-enum-told-3
+enum-told-3 c = search needs
+
+enum-told-4 : tie.Need-enum-told-4
+enum-told-4 c = search needs
+
 refused-requires-2 : tie.Need-refused-requires-2
 refused-requires-2 c κs = search needs
 
@@ -36,22 +42,24 @@ same-length-2 c = search needs
 
 returns-2 : tie.Need-returns-2
 returns-2 c =
-    let d = c .before .before in
-    roomless-plan (d .before .before .before .before .measure .ensures) (d .enum-told .given .1) (c .before .if1 .taken) (c .refused2 .ensures)
+    let r = c .before .before .before in
+    roomless-plan (from-room r .measure .ensures) (r .before .enum-told .given .1) _ (r .room .ensures) (c .before .enum-told4 .given .1) (c .refused2 .ensures)
 
-shared-slice-read-gates : tie.Need-shared-slice-read-gates
-shared-slice-read-gates c = omega (arith, accepted (c .before .before) .size)
+counts-of-requires : tie.Need-counts-of-requires
+counts-of-requires c κs = search needs
 
-cast-gates : tie.Need-cast-gates
-cast-gates c = omega (arith, accepted (c .before .before) .limits)
+cast-t12 : tie.Need-cast-t12
+cast-t12 c = search needs
 
 same-length-3 : tie.Need-same-length-3
 same-length-3 c = search needs
 
 returns-3 : tie.Need-returns-3
 returns-3 c =
-    let d = c .before .before in
-    planned (d .before .before .before .before .measure .ensures) (d .enum-told .given .1) (c .before .if1 .left)
+    let k = c .before in
+    let r = k .before .before .before in
+    rw (k .counts-of .ensures)
+    (planned (from-room r .measure .ensures) (r .before .enum-told .given .1) _ (r .room .ensures) (k .before .enum-told3 .given .1))
 
 pub prepare-spec : {M : Type 1} → statement M
 prepare-spec =
@@ -63,10 +71,13 @@ prepare-spec =
     refused-requires
     same-length
     returns
+    room-requires
+    enum-told-3
+    enum-told-4
     refused-requires-2
     same-length-2
     returns-2
-    shared-slice-read-gates
-    cast-gates
+    counts-of-requires
+    cast-t12
     same-length-3
     returns-3)

@@ -5,7 +5,7 @@ use native.Mathlib.Omega.{arith}
 use lib.ListN.{length, getD}
 use Rattle.answer.specs.Fronts.{over}
 use Rattle.netlist.specs.Words.{gatePlace}
-use Rattle.meter.specs.Passes.{depthsTo}
+use Rattle.meter.specs.InnerDepths.{depthsTo}
 use Rattle.meter.proofs.Depths.{gates-start, operands, kind, gate-low, gate-more}
 use borrow.Author.Needs.{needs}
 use Rattle.meter.proofs.put_gates.Statement.{statement}

@@ -1,5 +1,5 @@
 use mathlib.Core.Path.{refl}
-use Rattle.meter.specs.Counted.{noPlan}
+use Rattle.meter.specs.InnerLevels.{noPlan}
 use Rattle.meter.proofs.refused.Statement.{statement}
 use Rattle.meter.proofs.refused.Tie as tie
 

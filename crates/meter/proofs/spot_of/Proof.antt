@@ -4,9 +4,8 @@ use lib.Dec.{eqb}
 use lib.ListN.{getD}
 use denote.Ref.{now}
 use Rattle.netlist.specs.Words.{inputsOf, gatePlace}
-use Rattle.meter.specs.Levels.{andKind, muxKind}
-use Rattle.meter.specs.Counted.{spotOf}
-use Rattle.meter.proofs.Levels.{one-fits}
+use Rattle.meter.specs.Levels.{andKind, muxKind, spotOf}
+use Rattle.meter.proofs.Spots.{one-le}
 use borrow.Author.Needs.{needs}
 use Rattle.meter.proofs.spot_of.Statement.{statement}
 use Rattle.meter.proofs.spot_of.Tie as tie
@@ -53,7 +52,7 @@ add-t10 : tie.Need-add-t10
 add-t10 c =
     let a = c .before .before .before .before .before .before .before .args in
     let k = getD (now (a .net)) (gatePlace (a .g)) 0 in
-    omega (arith, one-fits (eqb k andKind) (c .before .one-if .ensures), one-fits (eqb k muxKind) (c .one-if2 .ensures))
+    omega (arith, one-le (eqb k andKind), one-le (eqb k muxKind), c .before .one-if .ensures, c .one-if2 .ensures)
 
 returns : tie.Need-returns
 unfolding spotOf

@@ -1,16 +1,28 @@
--- The walks over the inputs, the gates and the outputs: what each has written after n of them, and what it asks.
-use Prim.Native.Nat.{ℕ, _+_, _<_, _≤_}
+-- Inner: what contracts of this crate's private functions cite, and no promise that a caller reads. A gate's values as one number;
+-- the walks over the gates and the outputs: what each has written after n of them, and what it asks.
+use Prim.Native.Nat.{ℕ, _+_, _*_, _/_, _%_, _^_, _<_, _≤_}
 use mathlib.Core.Path.{_≡_}
 use mathlib.Core.List.{List, map}
 use lib.ListN.{length, getD, take, drop}
 use Rattle.answer.specs.Fronts.{over}
 use Rattle.netlist.specs.Net.{Uses, at, run, valAlg}
+use Rattle.netlist.specs.declared.gate.Gate.{Gate}
+use Rattle.netlist.specs.declared.gate.Gate.the-variants.{Zero, One, Not, Xor, And, Mux}
 use Rattle.netlist.specs.declared.gate.Taken.the-variants.{Valid}
 use Rattle.netlist.specs.Words.{headerWords, gatePlace, takenAt, gateAt, gatesAt}
 
--- the first n inputs at the front of vals
-unfoldable pub inputsPut : List ℕ → ℕ → List ℕ → List ℕ
-inputsPut inputs n vals = over (take n inputs) vals
+-- a gate's values: bit x + 2y + 4z is the value where a, b and c carry x, y and z
+abbrev pub truthOf : Gate → ℕ
+truthOf Zero = 0
+truthOf One = 255
+truthOf (Not a) = 85
+truthOf (Xor a b) = 102
+truthOf (And a b) = 136
+truthOf (Mux a b c) = 228
+
+-- a gate's value, read off its number
+unfoldable pub truthAt : Gate → ℕ → ℕ → ℕ → ℕ
+truthAt g x y z = truthOf g / 2 ^ (x % 2 + 2 * (y % 2) + 4 * (z % 2)) % 2
 
 -- the values of the first n gates after those of the inputs, I of them, which stand at the front of vals
 unfoldable pub gatesPut : List ℕ → ℕ → ℕ → List ℕ → List ℕ
