@@ -1,8 +1,9 @@
 -- Laws of sums of monomials by parts: monomials of one degree, triangles, and parts end to end.
-use Prim.Native.Nat.{ℕ, zero, suc, _+_, _-_, _%_, _<_, _≤_}
+use Prim.Native.Nat.{ℕ, zero, suc, _+_, _-_, _*_, _%_, _<_, _≤_}
 use mathlib.Core.Path.{_≡_, refl, ap, sym, _∙_}
 use mathlib.Core.List.{List, [], _∷_, _++_}
 use native.Mathlib.Omega.{arith}
+use native.Mathlib.Nat.{suc-mul}
 use native.Mathlib.Numerals.{add-one}
 use lib.Bits.{bitXor}
 use lib.ListN.{length, getD, take, drop}
@@ -66,13 +67,17 @@ join ds es xs {a} {b} {at} {ys} t e p q =
     xor-bit a b (omega (arith, sumOf-bit ds xs)) (omega (arith, sumOf-bit es ys))
     ∙ rw (p, f) (sym (sumOf-append ds es xs))
 
--- The loop over n copies of the same degrees: left are still to come, from variable at on.
+-- The loop over n copies of the same degrees: left are still to come, from variable at on, and their variables are there.
 module _ (ds xs : List ℕ) (n : ℕ) where
   abbrev pub Copies : ℕ → ℕ → ℕ → Type 0
-  Copies acc at left = (acc < 2) × ((acc + sumOf (copies left ds) (drop at xs)) % 2 ≡ sumOf (copies n ds) xs)
+  Copies acc at left = (acc < 2) × (at + left * total ds ≤ length xs) × ((acc + sumOf (copies left ds) (drop at xs)) % 2 ≡ sumOf (copies n ds) xs)
 
-  pub copies-start : Copies 0 0 n
-  copies-start = (omega arith, omega (arith, sumOf-bit (copies n ds) xs))
+  pub copies-start : n * total ds ≤ length xs → Copies 0 0 n
+  copies-start h = (omega arith, omega arith, omega (arith, sumOf-bit (copies n ds) xs))
+
+  pub copies-room : (acc at left size : ℕ) → Copies acc at left → 0 < left → total ds ≡ size → at + size ≤ length xs
+  copies-room acc at zero size v l m = absurd (omega arith)
+  copies-room acc at (suc left) size v l m = omega (arith, suc-mul left (total ds))
 
   pub copies-step : (acc at left size t : ℕ) {ys : List ℕ} → Copies acc at left → 0 < left → total ds ≡ size → ys ≡ drop at xs → t ≡ sumOf ds ys
       → Copies (bitXor acc t) (at + size) (left - 1)
@@ -85,7 +90,7 @@ module _ (ds xs : List ℕ) (n : ℕ) where
       let b : t < 2 = omega (arith, sumOf-bit ds (drop at xs), h ∙ ap (sumOf ds) e) in
       let o : suc left - 1 ≡ left = omega arith in
       rw (xor-bit acc t (v .0) b, o)
-      (omega arith, sym (regroup acc t (sumOf (copies left ds) (drop (at + size) xs))) ∙ ap (λ (y : ℕ). (acc + y) % 2) (sym s) ∙ v .1)
+      (omega arith, omega (arith, suc-mul left (total ds)), sym (regroup acc t (sumOf (copies left ds) (drop (at + size) xs))) ∙ ap (λ (y : ℕ). (acc + y) % 2) (sym s) ∙ v .2)
 
   pub copies-end : (acc at left : ℕ) → Copies acc at left → left ≤ 0 → acc ≡ sumOf (copies n ds) xs
   unfolding sumOf

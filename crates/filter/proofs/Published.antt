@@ -106,6 +106,14 @@ total-upTo (suc k) =
 pub triangle-total : (k : ℕ) → total (upTo k) ≡ triangleSize k
 triangle-total k = omega (arith, total-upTo k, ap (λ (n : ℕ). k * n) (add-one k))
 
+pub triangle-holds : (k : ℕ) → k ≤ triangleSize k
+unfolding total
+triangle-holds k = omega (arith, longest k, triangle-total k)
+  where
+    longest : (k : ℕ) → k ≤ total (upTo k)
+    longest zero = omega arith
+    longest (suc k) = omega (arith, total-append (upTo k) (suc k ∷ []))
+
 triangle-start : (k : ℕ) → total (upTo k) ≡ triangleStart (suc k)
 triangle-start k =
     let e : suc k - 1 ≡ k = omega arith in
@@ -158,14 +166,20 @@ sumAt-pairs x n at =
     first : (n : ℕ) → n + 0 ≡ n
     first n = omega arith
 
+pub total-linear : (n : ℕ) → total (replicate n 1) ≡ n
+total-linear n = omega (arith, total-replicate n 1)
+
+pub total-quadratic : (n pairs : ℕ) → total (replicate n 1 ++ replicate pairs 2) ≡ n + 2 * pairs
+total-quadratic n pairs = omega (arith, total-append (replicate n 1) (replicate pairs 2), total-linear n, total-replicate pairs 2)
+
 -- 000: FLIP with n1 variables in the linear part, twice as many as pairs in the quadratic, and nb triangles of degree k.
 flip-at : (x : ℕ → ℕ) (n1 pairs nb k : ℕ) → sumAt (flipDegrees n1 pairs nb k) 0 x ≡ flip n1 (2 * pairs) nb k x
 unfolding flip
 flip-at x n1 pairs nb k =
     let a : List ℕ = replicate n1 1 in
     let b : List ℕ = replicate pairs 2 in
-    let e : 0 + total a ≡ n1 = omega (arith, total-replicate n1 1) in
-    let f : 0 + total (a ++ b) ≡ n1 + 2 * pairs = omega (arith, total-append a b, total-replicate n1 1, total-replicate pairs 2) in
+    let e : 0 + total a ≡ n1 = omega (arith, total-linear n1) in
+    let f : 0 + total (a ++ b) ≡ n1 + 2 * pairs = omega (arith, total-quadratic n1 pairs) in
     let h : pairs ≡ 2 * pairs / 2 = omega arith in
     sumAt-append x (a ++ b) (copies nb (upTo k)) 0
     ∙ ap₂ (λ (s t : ℕ). (s + t) % 2)
@@ -179,7 +193,7 @@ total-flip : (n1 pairs nb k : ℕ) → total (flipDegrees n1 pairs nb k) ≡ n1 
 total-flip n1 pairs nb k =
     total-append (replicate n1 1 ++ replicate pairs 2) (copies nb (upTo k))
     ∙ ap₂ (λ (s t : ℕ). s + t)
-    (omega (arith, total-append (replicate n1 1) (replicate pairs 2), total-replicate n1 1, total-replicate pairs 2))
+    (total-quadratic n1 pairs)
     (total-copies nb (upTo k) ∙ ap (λ (t : ℕ). nb * t) (triangle-total k))
 
 flip-is : (n1 pairs nb k : ℕ) (x : ℕ → ℕ) (n : ℕ) → n1 + 2 * pairs + nb * triangleSize k ≤ n
