@@ -9,10 +9,11 @@ use lib.Bits.{bitXor}
 use lib.ListN.{length, getD, take, drop}
 use lib.Seq.{drop-cons, drop-drop}
 use Rattle.filter.specs.Filter.{tab, prod, sumOf}
+use Rattle.filter.specs.Papers.{triangleSize}
 use Rattle.filter.specs.Instances.{upTo, copies}
 use Rattle.filter.proofs.Sums.{sumOf-bit, xor-bit, Sum, sum-start, sum-step}
 use Rattle.filter.proofs.Tab.{tab-length, tab-at}
-use Rattle.filter.proofs.Published.{total}
+use Rattle.filter.proofs.Published.{total, triangle-total, triangle-holds}
 
 -- The loop over the degrees as in Sum, where the variables are enough for all of them.
 module _ (ds xs : List ℕ) where
@@ -67,34 +68,39 @@ join ds es xs {a} {b} {at} {ys} t e p q =
     xor-bit a b (omega (arith, sumOf-bit ds xs)) (omega (arith, sumOf-bit es ys))
     ∙ rw (p, f) (sym (sumOf-append ds es xs))
 
--- The loop over n copies of the same degrees: left are still to come, from variable at on, and their variables are there.
-module _ (ds xs : List ℕ) (n : ℕ) where
-  abbrev pub Copies : ℕ → ℕ → ℕ → Type 0
-  Copies acc at left = (acc < 2) × (at + left * total ds ≤ length xs) × ((acc + sumOf (copies left ds) (drop at xs)) % 2 ≡ sumOf (copies n ds) xs)
+-- No triangles, or such as have no monomials.
+none : (left k : ℕ) (xs : List ℕ) → left * triangleSize k ≡ 0 → sumOf (copies left (upTo k)) xs ≡ 0
+unfolding sumOf
+none zero k xs e = refl
+none (suc left) zero xs e = none left zero xs (omega arith)
+none (suc left) (suc k) xs e = absurd (omega (arith, suc-mul left (triangleSize (suc k)), triangle-holds (suc k)))
 
-  pub copies-start : n * total ds ≤ length xs → Copies 0 0 n
-  copies-start h = (omega arith, omega arith, omega (arith, sumOf-bit (copies n ds) xs))
+-- The loop over n triangles of degree k: acc is the sum of those before variable at, and left are still to come.
+module _ (n k : ℕ) (xs : List ℕ) where
+  abbrev pub Triangles : ℕ → ℕ → Type 0
+  Triangles acc at =
+      (left : ℕ) × (acc < 2) × (at + left * triangleSize k ≡ n * triangleSize k)
+      × ((acc + sumOf (copies left (upTo k)) (drop at xs)) % 2 ≡ sumOf (copies n (upTo k)) xs)
 
-  pub copies-room : (acc at left size : ℕ) → Copies acc at left → 0 < left → total ds ≡ size → at + size ≤ length xs
-  copies-room acc at zero size v l m = absurd (omega arith)
-  copies-room acc at (suc left) size v l m = omega (arith, suc-mul left (total ds))
+  pub triangles-start : Triangles 0 0
+  triangles-start = (n, omega arith, omega arith, omega (arith, sumOf-bit (copies n (upTo k)) xs))
 
-  pub copies-step : (acc at left size t : ℕ) {ys : List ℕ} → Copies acc at left → 0 < left → total ds ≡ size → ys ≡ drop at xs → t ≡ sumOf ds ys
-      → Copies (bitXor acc t) (at + size) (left - 1)
-  copies-step acc at zero size t v l m e h = absurd (omega arith)
-  copies-step acc at (suc left) size t v l m e h =
-      let s : sumOf (copies (suc left) ds) (drop at xs) ≡ (t + sumOf (copies left ds) (drop (at + size) xs)) % 2 =
-      sumOf-append ds (copies left ds) (drop at xs)
-      ∙ ap (λ (y : List ℕ). (sumOf ds (drop at xs) + sumOf (copies left ds) y) % 2) (drop-drop (total ds) at xs ∙ ap (λ (k : ℕ). drop (at + k) xs) m)
-      ∙ ap (λ (y : ℕ). (y + sumOf (copies left ds) (drop (at + size) xs)) % 2) (sym (h ∙ ap (sumOf ds) e)) in
-      let b : t < 2 = omega (arith, sumOf-bit ds (drop at xs), h ∙ ap (sumOf ds) e) in
-      let o : suc left - 1 ≡ left = omega arith in
-      rw (xor-bit acc t (v .0) b, o)
-      (omega arith, omega (arith, suc-mul left (total ds)), sym (regroup acc t (sumOf (copies left ds) (drop (at + size) xs))) ∙ ap (λ (y : ℕ). (acc + y) % 2) (sym s) ∙ v .2)
+  pub triangles-room : (acc at : ℕ) → Triangles acc at → at < n * triangleSize k → at + triangleSize k ≤ n * triangleSize k
+  triangles-room acc at (zero, b, p, e) l = absurd (omega arith)
+  triangles-room acc at (suc left, b, p, e) l = omega (arith, suc-mul left (triangleSize k))
 
-  pub copies-end : (acc at left : ℕ) → Copies acc at left → left ≤ 0 → acc ≡ sumOf (copies n ds) xs
-  unfolding sumOf
-  copies-end acc at left v l =
-      let z : left ≡ 0 = omega arith in
-      let e : sumOf (copies left ds) (drop at xs) ≡ 0 = rw z in
-      omega arith
+  pub triangles-step : (acc at t : ℕ) {ys : List ℕ} → Triangles acc at → at < n * triangleSize k → ys ≡ drop at xs → t ≡ sumOf (upTo k) ys
+      → Triangles (bitXor acc t) (at + triangleSize k)
+  triangles-step acc at t (zero, b, p, e) l y h = absurd (omega arith)
+  triangles-step acc at t (suc left, b, p, e) l y h =
+      let rest : ℕ = sumOf (copies left (upTo k)) (drop (at + triangleSize k) xs) in
+      let f : t ≡ sumOf (upTo k) (drop at xs) = h ∙ ap (sumOf (upTo k)) y in
+      let s : sumOf (copies (suc left) (upTo k)) (drop at xs) ≡ (t + rest) % 2 =
+      sumOf-append (upTo k) (copies left (upTo k)) (drop at xs)
+      ∙ ap (λ (y : List ℕ). (sumOf (upTo k) (drop at xs) + sumOf (copies left (upTo k)) y) % 2) (drop-drop (total (upTo k)) at xs ∙ ap (λ (m : ℕ). drop (at + m) xs) (triangle-total k))
+      ∙ ap (λ (y : ℕ). (y + rest) % 2) (sym f) in
+      rw (xor-bit acc t b (omega (arith, sumOf-bit (upTo k) (drop at xs))))
+      (left, omega arith, omega (arith, suc-mul left (triangleSize k)), sym (regroup acc t rest) ∙ ap (λ (y : ℕ). (acc + y) % 2) (sym s) ∙ e)
+
+  pub triangles-end : (acc at : ℕ) → Triangles acc at → n * triangleSize k ≤ at → acc ≡ sumOf (copies n (upTo k)) xs
+  triangles-end acc at (left, b, p, e) l = omega (arith, none left k (drop at xs) (omega arith))

@@ -102,19 +102,19 @@ fn triangle(k: usize, x: &[u8]) -> u8
     sum
 }
 
-// 8 triangles of degree k.
+// 8 triangles of degree k. The loop counts variables: one that counts to 8 the compiler unrolls by itself, and
+// then leaves this function as it is for every k.
 fn triangles(k: usize, x: &[u8]) -> u8
     requires { ⌜ 8 * triangleSize k ≤ length (now x) ⌝ }
     ensures { λ r. ⌜ r ≡ sumOf (copies 8 (upTo k)) (now (x .entry)) ⌝ }
 {
     let size = k * (k + 1) / 2;
+    let end = 8 * size;
     let mut sum: u8 = 0;
     let mut at: usize = 0;
-    let mut left: usize = 8;
-    while left > 0 {
+    while at < end {
         sum = sum ^ triangle(k, &x[at..]);
         at += size;
-        left -= 1;
     }
     sum
 }
