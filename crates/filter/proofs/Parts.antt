@@ -11,7 +11,7 @@ use lib.Seq.{drop-cons, drop-drop}
 use Rattle.filter.specs.Filter.{tab, prod, sumOf}
 use Rattle.filter.specs.Papers.{triangleSize}
 use Rattle.filter.specs.Instances.{upTo, copies}
-use Rattle.filter.proofs.Sums.{sumOf-bit, xor-bit, Sum, sum-start, sum-step}
+use Rattle.filter.proofs.Sums.{regroup, sumOf-bit, xor-bit, Sum, sum-start, sum-step}
 use Rattle.filter.proofs.Tab.{tab-length, tab-at}
 use Rattle.filter.proofs.Published.{total, triangle-total, triangle-holds}
 
@@ -50,9 +50,6 @@ pub upTo-at : (k j : ℕ) → j < k → getD (upTo k) j 0 ≡ j + 1
 upTo-at k j h = ap (λ (l : List ℕ). getD l j 0) (upTo-tab k) ∙ tab-at suc k j h ∙ sym (add-one j)
 
 -- Parts end to end.
-regroup : (a b c : ℕ) → (a + (b + c) % 2) % 2 ≡ ((a + b) % 2 + c) % 2
-regroup a b c = omega arith
-
 sumOf-append : (ds es xs : List ℕ) → sumOf (ds ++ es) xs ≡ (sumOf ds xs + sumOf es (drop (total ds) xs)) % 2
 unfolding sumOf total
 sumOf-append [] es xs = omega (arith, sumOf-bit es xs)

@@ -2,11 +2,11 @@
 // takes the variables of a row, in order, each once. No branch and no index depends on a variable.
 mod tables;
 
+pub use crate::tables::FILIP_144;
 pub use crate::tables::FILIP_1216;
 pub use crate::tables::FILIP_1280;
-pub use crate::tables::FILIP_144;
-pub use crate::tables::FLIP_1394;
 pub use crate::tables::FLIP_530;
+pub use crate::tables::FLIP_1394;
 ghost use mathlib.Core.Path.{_≡_};
 ghost use Prim.Native.Nat.{_+_, _*_, _%_, _≤_, min};
 ghost use lib.ListN.{length, take, drop, replicate};
@@ -51,7 +51,7 @@ pub fn sum_monomials(degrees: &[u8], x: &[u8]) -> u8
     sum
 }
 
-// The same by an instance's table of degrees.
+// The sum of an instance's monomials by its table of degrees, over any number of variables.
 fn sum_by_table(instance: u32, x: &[u8]) -> u8
     ensures { λ r. ⌜ r ≡ sumOf (degreesOf instance) (now (x .entry)) ⌝ }
 {
@@ -66,7 +66,7 @@ fn sum_by_table(instance: u32, x: &[u8]) -> u8
 }
 
 // From here to `sum_by_parts`: the same sums where all variables are there. Degrees and numbers of monomials
-// are constants at each call, so that the compiler lays out the loops of a monomial.
+// come from constants, so that the compiler lays out the loops of a monomial.
 
 // The sum of some monomials of one degree.
 fn sum_equal(degree: usize, many: usize, x: &[u8]) -> u8
@@ -102,8 +102,8 @@ fn triangle(k: usize, x: &[u8]) -> u8
     sum
 }
 
-// 8 triangles of degree k. The loop counts variables: one that counts to 8 the compiler unrolls by itself, and
-// then leaves this function as it is for every k.
+// 8 triangles of degree k. The loop goes by variables: one that counted to 8 the compiler would unroll before
+// it knows k, and then not lay out for each k.
 fn triangles(k: usize, x: &[u8]) -> u8
     requires { ⌜ 8 * triangleSize k ≤ length (now x) ⌝ }
     ensures { λ r. ⌜ r ≡ sumOf (copies 8 (upTo k)) (now (x .entry)) ⌝ }
@@ -127,8 +127,8 @@ fn flip(linear: usize, pairs: usize, k: usize, x: &[u8]) -> u8
     let ones = sum_equal(1, linear, x);
     let twos = sum_equal(2, pairs, &x[linear..]);
     let at = linear + 2 * pairs;
-    let rest = triangles(k, &x[at..]);
-    ones ^ twos ^ rest
+    let triangular = triangles(k, &x[at..]);
+    ones ^ twos ^ triangular
 }
 
 fn filip_1216(x: &[u8]) -> u8
@@ -152,6 +152,7 @@ fn filip_1280(x: &[u8]) -> u8
     ones ^ twos ^ sixteens
 }
 
+// The sum of an instance's monomials, part by part.
 fn sum_by_parts(instance: u32, x: &[u8]) -> u8
     requires { ⌜ rowBits instance ≤ length (now x) ⌝ }
     ensures { λ r. ⌜ r ≡ sumOf (degreesOf instance) (now (x .entry)) ⌝ }
@@ -166,7 +167,7 @@ fn sum_by_parts(instance: u32, x: &[u8]) -> u8
     }
 }
 
-// The sum of an instance's monomials over any number of variables.
+// The sum of an instance's monomials: by parts where all variables of a row are there.
 fn monomials(instance: u32, x: &[u8]) -> u8
     ensures { λ r. ⌜ r ≡ sumOf (degreesOf instance) (now (x .entry)) ⌝ }
 {

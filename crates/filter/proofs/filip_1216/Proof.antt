@@ -51,12 +51,14 @@ sum-equal-requires-4 c κs = search needs
 returns : tie.Need-returns
 unfolding degreesOf total
 returns c =
-    let second = c .before .before .before .before in
-    let x = second .before .before .before .before .args .x .now in
+    let third = c .before .before in
+    let second = third .before .before in
+    let first = second .before .before in
+    let x = first .before .before .args .x .now in
     join (replicate 128 1 ++ replicate 64 2 ++ replicate 80 4) (replicate 80 8) x refl (tail-is 576 x)
     (join (replicate 128 1 ++ replicate 64 2) (replicate 80 4) x refl (tail-is 256 x)
-    (join (replicate 128 1) (replicate 64 2) x refl (tail-is 128 x) (second .before .before .sum-equal .ensures) (second .sum-equal2 .ensures))
-    (c .before .before .sum-equal3 .ensures))
+    (join (replicate 128 1) (replicate 64 2) x refl (tail-is 128 x) (first .sum-equal .ensures) (second .sum-equal2 .ensures))
+    (third .sum-equal3 .ensures))
     (c .sum-equal4 .ensures)
 
 pub filip-1216-spec : {M : Type 1} → statement M

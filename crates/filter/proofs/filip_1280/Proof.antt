@@ -40,9 +40,10 @@ returns : tie.Need-returns
 unfolding degreesOf total
 returns c =
     let second = c .before .before in
-    let x = second .before .before .before .before .args .x .now in
+    let first = second .before .before in
+    let x = first .before .before .args .x .now in
     join (replicate 128 1 ++ replicate 64 2) (replicate 64 16) x refl (tail-is 256 x)
-    (join (replicate 128 1) (replicate 64 2) x refl (tail-is 128 x) (second .before .before .sum-equal .ensures) (second .sum-equal2 .ensures))
+    (join (replicate 128 1) (replicate 64 2) x refl (tail-is 128 x) (first .sum-equal .ensures) (second .sum-equal2 .ensures))
     (c .sum-equal3 .ensures)
 
 pub filip-1280-spec : {M : Type 1} → statement M

@@ -3,7 +3,7 @@ use mathlib.Core.List.{_++_}
 use lib.ListN.{replicate}
 use Rattle.answer.proofs.Over.{tail-is}
 use Rattle.filter.specs.Instances.{upTo, copies}
-use Rattle.filter.proofs.Published.{total-linear, total-quadratic}
+use Rattle.filter.proofs.Published.{before-pairs, before-triangles}
 use Rattle.filter.proofs.Parts.{join}
 use borrow.Author.Needs.{needs}
 use Rattle.filter.proofs.flip.Statement.{statement}
@@ -45,10 +45,11 @@ triangles-requires c κs = search needs
 returns : tie.Need-returns
 returns c =
     let second = c .before .before in
-    let a = second .before .before .before .before .args in
+    let first = second .before .before in
+    let a = first .before .before .args in
     let x = a .x .now in
-    join (replicate (a .linear) 1 ++ replicate (a .pairs) 2) (copies 8 (upTo (a .k))) x (total-quadratic (a .linear) (a .pairs)) (tail-is (a .linear + 2 * a .pairs) x)
-    (join (replicate (a .linear) 1) (replicate (a .pairs) 2) x (total-linear (a .linear)) (tail-is (a .linear) x) (second .before .before .sum-equal .ensures) (second .sum-equal2 .ensures))
+    join (replicate (a .linear) 1 ++ replicate (a .pairs) 2) (copies 8 (upTo (a .k))) x (before-triangles (a .linear) (a .pairs)) (tail-is (a .linear + 2 * a .pairs) x)
+    (join (replicate (a .linear) 1) (replicate (a .pairs) 2) x (before-pairs (a .linear)) (tail-is (a .linear) x) (first .sum-equal .ensures) (second .sum-equal2 .ensures))
     (c .triangles .ensures)
 
 pub flip-spec : {M : Type 1} → statement M

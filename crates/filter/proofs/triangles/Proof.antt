@@ -53,8 +53,9 @@ loop-less c = omega (arith, room (c .before .before))
 
 loop-again : tie.Need-loop-again Inv-loop μ-loop
 loop-again c =
-    let l = c .before .before .before .loop in
-    let a = c .before .before .before .before .before .args in
+    let turn = c .before .before .before in
+    let l = turn .loop in
+    let a = turn .before .before .args in
     triangles-step 8 (a .k) (a .x .now) (l .sum) (l .at) _ (l .inv) (search needs) (tail-is (l .at) (a .x .now)) (c .triangle .ensures)
 
 returns : tie.Need-returns Inv-loop μ-loop
