@@ -1,17 +1,19 @@
 -- Laws of sums of monomials by parts: monomials of one degree, triangles, and parts end to end.
-use Prim.Native.Nat.{ℕ, zero, suc, _+_, _-_, _%_, _<_, _≤_}
+use Prim.Native.Nat.{ℕ, zero, suc, _+_, _-_, _*_, _%_, _<_, _≤_}
 use mathlib.Core.Path.{_≡_, refl, ap, sym, _∙_}
 use mathlib.Core.List.{List, [], _∷_, _++_}
 use native.Mathlib.Omega.{arith}
+use native.Mathlib.Nat.{suc-mul}
 use native.Mathlib.Numerals.{add-one}
 use lib.Bits.{bitXor}
 use lib.ListN.{length, getD, take, drop}
 use lib.Seq.{drop-cons, drop-drop}
 use Rattle.filter.specs.Filter.{tab, prod, sumOf}
+use Rattle.filter.specs.Papers.{triangleSize}
 use Rattle.filter.specs.Instances.{upTo, copies}
-use Rattle.filter.proofs.Sums.{sumOf-bit, xor-bit, Sum, sum-start, sum-step}
+use Rattle.filter.proofs.Sums.{regroup, sumOf-bit, xor-bit, Sum, sum-start, sum-step}
 use Rattle.filter.proofs.Tab.{tab-length, tab-at}
-use Rattle.filter.proofs.Published.{total}
+use Rattle.filter.proofs.Published.{total, triangle-total, triangle-holds}
 
 -- The loop over the degrees as in Sum, where the variables are enough for all of them.
 module _ (ds xs : List ℕ) where
@@ -48,9 +50,6 @@ pub upTo-at : (k j : ℕ) → j < k → getD (upTo k) j 0 ≡ j + 1
 upTo-at k j h = ap (λ (l : List ℕ). getD l j 0) (upTo-tab k) ∙ tab-at suc k j h ∙ sym (add-one j)
 
 -- Parts end to end.
-regroup : (a b c : ℕ) → (a + (b + c) % 2) % 2 ≡ ((a + b) % 2 + c) % 2
-regroup a b c = omega arith
-
 sumOf-append : (ds es xs : List ℕ) → sumOf (ds ++ es) xs ≡ (sumOf ds xs + sumOf es (drop (total ds) xs)) % 2
 unfolding sumOf total
 sumOf-append [] es xs = omega (arith, sumOf-bit es xs)
@@ -66,30 +65,39 @@ join ds es xs {a} {b} {at} {ys} t e p q =
     xor-bit a b (omega (arith, sumOf-bit ds xs)) (omega (arith, sumOf-bit es ys))
     ∙ rw (p, f) (sym (sumOf-append ds es xs))
 
--- The loop over n copies of the same degrees: left are still to come, from variable at on.
-module _ (ds xs : List ℕ) (n : ℕ) where
-  abbrev pub Copies : ℕ → ℕ → ℕ → Type 0
-  Copies acc at left = (acc < 2) × ((acc + sumOf (copies left ds) (drop at xs)) % 2 ≡ sumOf (copies n ds) xs)
+-- No triangles, or such as have no monomials.
+none : (left k : ℕ) (xs : List ℕ) → left * triangleSize k ≡ 0 → sumOf (copies left (upTo k)) xs ≡ 0
+unfolding sumOf
+none zero k xs e = refl
+none (suc left) zero xs e = none left zero xs (omega arith)
+none (suc left) (suc k) xs e = absurd (omega (arith, suc-mul left (triangleSize (suc k)), triangle-holds (suc k)))
 
-  pub copies-start : Copies 0 0 n
-  copies-start = (omega arith, omega (arith, sumOf-bit (copies n ds) xs))
+-- The loop over n triangles of degree k: acc is the sum of those before variable at, and left are still to come.
+module _ (n k : ℕ) (xs : List ℕ) where
+  abbrev pub Triangles : ℕ → ℕ → Type 0
+  Triangles acc at =
+      (left : ℕ) × (acc < 2) × (at + left * triangleSize k ≡ n * triangleSize k)
+      × ((acc + sumOf (copies left (upTo k)) (drop at xs)) % 2 ≡ sumOf (copies n (upTo k)) xs)
 
-  pub copies-step : (acc at left size t : ℕ) {ys : List ℕ} → Copies acc at left → 0 < left → total ds ≡ size → ys ≡ drop at xs → t ≡ sumOf ds ys
-      → Copies (bitXor acc t) (at + size) (left - 1)
-  copies-step acc at zero size t v l m e h = absurd (omega arith)
-  copies-step acc at (suc left) size t v l m e h =
-      let s : sumOf (copies (suc left) ds) (drop at xs) ≡ (t + sumOf (copies left ds) (drop (at + size) xs)) % 2 =
-      sumOf-append ds (copies left ds) (drop at xs)
-      ∙ ap (λ (y : List ℕ). (sumOf ds (drop at xs) + sumOf (copies left ds) y) % 2) (drop-drop (total ds) at xs ∙ ap (λ (k : ℕ). drop (at + k) xs) m)
-      ∙ ap (λ (y : ℕ). (y + sumOf (copies left ds) (drop (at + size) xs)) % 2) (sym (h ∙ ap (sumOf ds) e)) in
-      let b : t < 2 = omega (arith, sumOf-bit ds (drop at xs), h ∙ ap (sumOf ds) e) in
-      let o : suc left - 1 ≡ left = omega arith in
-      rw (xor-bit acc t (v .0) b, o)
-      (omega arith, sym (regroup acc t (sumOf (copies left ds) (drop (at + size) xs))) ∙ ap (λ (y : ℕ). (acc + y) % 2) (sym s) ∙ v .1)
+  pub triangles-start : Triangles 0 0
+  triangles-start = (n, omega arith, omega arith, omega (arith, sumOf-bit (copies n (upTo k)) xs))
 
-  pub copies-end : (acc at left : ℕ) → Copies acc at left → left ≤ 0 → acc ≡ sumOf (copies n ds) xs
-  unfolding sumOf
-  copies-end acc at left v l =
-      let z : left ≡ 0 = omega arith in
-      let e : sumOf (copies left ds) (drop at xs) ≡ 0 = rw z in
-      omega arith
+  pub triangles-room : (acc at : ℕ) → Triangles acc at → at < n * triangleSize k → at + triangleSize k ≤ n * triangleSize k
+  triangles-room acc at (zero, b, p, e) l = absurd (omega arith)
+  triangles-room acc at (suc left, b, p, e) l = omega (arith, suc-mul left (triangleSize k))
+
+  pub triangles-step : (acc at t : ℕ) {ys : List ℕ} → Triangles acc at → at < n * triangleSize k → ys ≡ drop at xs → t ≡ sumOf (upTo k) ys
+      → Triangles (bitXor acc t) (at + triangleSize k)
+  triangles-step acc at t (zero, b, p, e) l y h = absurd (omega arith)
+  triangles-step acc at t (suc left, b, p, e) l y h =
+      let rest : ℕ = sumOf (copies left (upTo k)) (drop (at + triangleSize k) xs) in
+      let f : t ≡ sumOf (upTo k) (drop at xs) = h ∙ ap (sumOf (upTo k)) y in
+      let s : sumOf (copies (suc left) (upTo k)) (drop at xs) ≡ (t + rest) % 2 =
+      sumOf-append (upTo k) (copies left (upTo k)) (drop at xs)
+      ∙ ap (λ (y : List ℕ). (sumOf (upTo k) (drop at xs) + sumOf (copies left (upTo k)) y) % 2) (drop-drop (total (upTo k)) at xs ∙ ap (λ (m : ℕ). drop (at + m) xs) (triangle-total k))
+      ∙ ap (λ (y : ℕ). (y + rest) % 2) (sym f) in
+      rw (xor-bit acc t b (omega (arith, sumOf-bit (upTo k) (drop at xs))))
+      (left, omega arith, omega (arith, suc-mul left (triangleSize k)), sym (regroup acc t rest) ∙ ap (λ (y : ℕ). (acc + y) % 2) (sym s) ∙ e)
+
+  pub triangles-end : (acc at : ℕ) → Triangles acc at → n * triangleSize k ≤ at → acc ≡ sumOf (copies n (upTo k)) xs
+  triangles-end acc at (left, b, p, e) l = omega (arith, none left k (drop at xs) (omega arith))

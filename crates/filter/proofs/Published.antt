@@ -11,7 +11,7 @@ use Rattle.instance.specs.Table.{sizesOf, rowBits}
 use Rattle.filter.specs.Filter.{tab, prod, sumOf, threshold}
 use Rattle.filter.specs.Papers.{sum, product, triangleSize, triangleStart, triangular, flip, directSum, vector1216, vector1280, published}
 use Rattle.filter.specs.Instances.{upTo, copies, flipDegrees, degreesOf, tailOf, filterOf}
-use Rattle.filter.proofs.Sums.{sumOf-bit}
+use Rattle.filter.proofs.Sums.{regroup, sumOf-bit}
 use Rattle.filter.proofs.Tab.{tab-length, tab-at, tab-add}
 
 pointwise : {f g : ℕ → ℕ} → ((n : ℕ) → f n ≡ g n) → f ≡ g
@@ -66,9 +66,6 @@ module _ (x : ℕ → ℕ) where
   sumAt-append (d ∷ ds) es at =
       ap (λ (s : ℕ). (product d (λ j. x (at + j)) + s) % 2) (sumAt-append ds es (at + d) ∙ ap (λ (p : ℕ). (sumAt ds (at + d) x + sumAt es p x) % 2) (add-assoc at d (total ds)))
       ∙ regroup (product d (λ j. x (at + j))) (sumAt ds (at + d) x) (sumAt es (at + (d + total ds)) x)
-    where
-      regroup : (a b c : ℕ) → (a + (b + c) % 2) % 2 ≡ ((a + b) % 2 + c) % 2
-      regroup a b c = omega arith
 
   sumAt-snoc : (ds : List ℕ) (d at : ℕ) → sumAt (ds ++ d ∷ []) at x ≡ (sumAt ds at x + product d (λ j. x (at + total ds + j))) % 2
   unfolding sumAt
@@ -105,6 +102,15 @@ total-upTo (suc k) =
 
 pub triangle-total : (k : ℕ) → total (upTo k) ≡ triangleSize k
 triangle-total k = omega (arith, total-upTo k, ap (λ (n : ℕ). k * n) (add-one k))
+
+-- its longest monomial fits into it
+pub triangle-holds : (k : ℕ) → k ≤ triangleSize k
+unfolding total
+triangle-holds k = omega (arith, longest k, triangle-total k)
+  where
+    longest : (k : ℕ) → k ≤ total (upTo k)
+    longest zero = omega arith
+    longest (suc k) = omega (arith, total-append (upTo k) (suc k ∷ []))
 
 triangle-start : (k : ℕ) → total (upTo k) ≡ triangleStart (suc k)
 triangle-start k =
@@ -158,14 +164,21 @@ sumAt-pairs x n at =
     first : (n : ℕ) → n + 0 ≡ n
     first n = omega arith
 
+-- how many variables stand before the pairs, and before the triangles
+pub before-pairs : (n : ℕ) → total (replicate n 1) ≡ n
+before-pairs n = omega (arith, total-replicate n 1)
+
+pub before-triangles : (n pairs : ℕ) → total (replicate n 1 ++ replicate pairs 2) ≡ n + 2 * pairs
+before-triangles n pairs = omega (arith, total-append (replicate n 1) (replicate pairs 2), before-pairs n, total-replicate pairs 2)
+
 -- 000: FLIP with n1 variables in the linear part, twice as many as pairs in the quadratic, and nb triangles of degree k.
 flip-at : (x : ℕ → ℕ) (n1 pairs nb k : ℕ) → sumAt (flipDegrees n1 pairs nb k) 0 x ≡ flip n1 (2 * pairs) nb k x
 unfolding flip
 flip-at x n1 pairs nb k =
     let a : List ℕ = replicate n1 1 in
     let b : List ℕ = replicate pairs 2 in
-    let e : 0 + total a ≡ n1 = omega (arith, total-replicate n1 1) in
-    let f : 0 + total (a ++ b) ≡ n1 + 2 * pairs = omega (arith, total-append a b, total-replicate n1 1, total-replicate pairs 2) in
+    let e : 0 + total a ≡ n1 = omega (arith, before-pairs n1) in
+    let f : 0 + total (a ++ b) ≡ n1 + 2 * pairs = omega (arith, before-triangles n1 pairs) in
     let h : pairs ≡ 2 * pairs / 2 = omega arith in
     sumAt-append x (a ++ b) (copies nb (upTo k)) 0
     ∙ ap₂ (λ (s t : ℕ). (s + t) % 2)
@@ -179,7 +192,7 @@ total-flip : (n1 pairs nb k : ℕ) → total (flipDegrees n1 pairs nb k) ≡ n1 
 total-flip n1 pairs nb k =
     total-append (replicate n1 1 ++ replicate pairs 2) (copies nb (upTo k))
     ∙ ap₂ (λ (s t : ℕ). s + t)
-    (omega (arith, total-append (replicate n1 1) (replicate pairs 2), total-replicate n1 1, total-replicate pairs 2))
+    (before-triangles n1 pairs)
     (total-copies nb (upTo k) ∙ ap (λ (t : ℕ). nb * t) (triangle-total k))
 
 flip-is : (n1 pairs nb k : ℕ) (x : ℕ → ℕ) (n : ℕ) → n1 + 2 * pairs + nb * triangleSize k ≤ n

@@ -59,6 +59,9 @@ product-end x p i b h e =
     mul-one′ p = omega arith
 
 -- Sums of monomials.
+pub regroup : (a b c : ℕ) → (a + (b + c) % 2) % 2 ≡ ((a + b) % 2 + c) % 2
+regroup a b c = omega arith
+
 pub sumOf-bit : (ds xs : List ℕ) → sumOf ds xs < 2
 unfolding sumOf
 sumOf-bit [] xs = omega arith
@@ -85,13 +88,13 @@ parity : (acc P S T : ℕ) {t s : ℕ} → t ≡ P % 2 → s ≡ (P + S) % 2 →
 parity acc P S T {t} {s} p q r =
     mod-add-mod (acc + t) 2 S
     ∙ ap (λ (x : ℕ). (acc + x + S) % 2) p
-    ∙ regroup acc P S
+    ∙ together acc P S
     ∙ sym (add-mod-mod acc (P + S) 2)
     ∙ ap (λ (x : ℕ). (acc + x) % 2) (sym q)
     ∙ r
   where
-    regroup : (acc P S : ℕ) → (acc + P % 2 + S) % 2 ≡ (acc + (P + S)) % 2
-    regroup acc P S = omega arith
+    together : (acc P S : ℕ) → (acc + P % 2 + S) % 2 ≡ (acc + (P + S)) % 2
+    together acc P S = omega arith
 
 -- The loop over the degrees stands at degree j and variable at; acc is the sum so far.
 module _ (ds xs : List ℕ) where

@@ -9,16 +9,6 @@ use borrow.Author.Needs.{needs}
 use Rattle.filter.proofs.filip_1216.Statement.{statement}
 use Rattle.filter.proofs.filip_1216.Tie as tie
 
-slice-aggregate-sum-monomials : tie.Need-slice-aggregate-sum-monomials
-slice-aggregate-sum-monomials c = search needs
-
-sum-monomials-requires : tie.Need-sum-monomials-requires
-sum-monomials-requires c κs = search needs
-
-returns : tie.Need-returns
-unfolding degreesOf
-returns c = c .sum-monomials .ensures
-
 sum-equal-requires : tie.Need-sum-equal-requires
 sum-equal-requires c κs = search needs
 
@@ -58,24 +48,23 @@ part-sum-equal-end-3 c = search needs
 sum-equal-requires-4 : tie.Need-sum-equal-requires-4
 sum-equal-requires-4 c κs = search needs
 
-returns-2 : tie.Need-returns-2
+returns : tie.Need-returns
 unfolding degreesOf total
-returns-2 c =
-    let second = c .before .before .before .before in
-    let x = second .before .before .before .before .before .args .x .now in
+returns c =
+    let third = c .before .before in
+    let second = third .before .before in
+    let first = second .before .before in
+    let x = first .before .before .args .x .now in
     join (replicate 128 1 ++ replicate 64 2 ++ replicate 80 4) (replicate 80 8) x refl (tail-is 576 x)
     (join (replicate 128 1 ++ replicate 64 2) (replicate 80 4) x refl (tail-is 256 x)
-    (join (replicate 128 1) (replicate 64 2) x refl (tail-is 128 x) (second .before .before .sum-equal .ensures) (second .sum-equal2 .ensures))
-    (c .before .before .sum-equal3 .ensures))
+    (join (replicate 128 1) (replicate 64 2) x refl (tail-is 128 x) (first .sum-equal .ensures) (second .sum-equal2 .ensures))
+    (third .sum-equal3 .ensures))
     (c .sum-equal4 .ensures)
 
 pub filip-1216-spec : {M : Type 1} → statement M
 filip-1216-spec =
     tie.close
     (tie.spec
-    slice-aggregate-sum-monomials
-    sum-monomials-requires
-    returns
     sum-equal-requires
     sub-sum-equal
     part-sum-equal-start
@@ -89,4 +78,4 @@ filip-1216-spec =
     part-sum-equal-start-3
     part-sum-equal-end-3
     sum-equal-requires-4
-    returns-2)
+    returns)

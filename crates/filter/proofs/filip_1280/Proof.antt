@@ -9,16 +9,6 @@ use borrow.Author.Needs.{needs}
 use Rattle.filter.proofs.filip_1280.Statement.{statement}
 use Rattle.filter.proofs.filip_1280.Tie as tie
 
-slice-aggregate-sum-monomials : tie.Need-slice-aggregate-sum-monomials
-slice-aggregate-sum-monomials c = search needs
-
-sum-monomials-requires : tie.Need-sum-monomials-requires
-sum-monomials-requires c κs = search needs
-
-returns : tie.Need-returns
-unfolding degreesOf
-returns c = c .sum-monomials .ensures
-
 sum-equal-requires : tie.Need-sum-equal-requires
 sum-equal-requires c κs = search needs
 
@@ -46,22 +36,20 @@ part-sum-equal-end-2 c = search needs
 sum-equal-requires-3 : tie.Need-sum-equal-requires-3
 sum-equal-requires-3 c κs = search needs
 
-returns-2 : tie.Need-returns-2
+returns : tie.Need-returns
 unfolding degreesOf total
-returns-2 c =
+returns c =
     let second = c .before .before in
-    let x = second .before .before .before .before .before .args .x .now in
+    let first = second .before .before in
+    let x = first .before .before .args .x .now in
     join (replicate 128 1 ++ replicate 64 2) (replicate 64 16) x refl (tail-is 256 x)
-    (join (replicate 128 1) (replicate 64 2) x refl (tail-is 128 x) (second .before .before .sum-equal .ensures) (second .sum-equal2 .ensures))
+    (join (replicate 128 1) (replicate 64 2) x refl (tail-is 128 x) (first .sum-equal .ensures) (second .sum-equal2 .ensures))
     (c .sum-equal3 .ensures)
 
 pub filip-1280-spec : {M : Type 1} → statement M
 filip-1280-spec =
     tie.close
     (tie.spec
-    slice-aggregate-sum-monomials
-    sum-monomials-requires
-    returns
     sum-equal-requires
     sub-sum-equal
     part-sum-equal-start
@@ -71,4 +59,4 @@ filip-1280-spec =
     part-sum-equal-start-2
     part-sum-equal-end-2
     sum-equal-requires-3
-    returns-2)
+    returns)

@@ -50,8 +50,9 @@ loop-less c = search needs
 
 loop-again : tie.Need-loop-again Inv-loop μ-loop
 loop-again c =
-    let l = c .before .before .before .loop in
-    let a = c .before .before .before .before .before .args in
+    let turn = c .before .before .before in
+    let l = turn .loop in
+    let a = turn .before .before .args in
     part-step (replicate (a .many) (a .degree)) (a .x .now) (l .sum) (l .at) (l .j) (a .degree) _ (l .inv) (omega (arith, length-replicate (a .many) (a .degree))) (getD-replicate (a .many) (l .j) (a .degree) 0 (search needs)) (c .product .ensures)
 
 returns : tie.Need-returns Inv-loop μ-loop

@@ -53,11 +53,16 @@ loop-less c = search needs
 
 loop-again : tie.Need-loop-again Inv-loop μ-loop
 loop-again c =
-    let s = c .before .before .before .before .before .before .before .before in
-    sum-step (s .args .degrees .now) (s .args .x .now) _ _ _ _ _ (c .before .before .before .before .before .loop .inv) (search needs) (c .before .before .smaller .ensures) (c .product .ensures)
+    let sized = c .before .before in
+    let turn = sized .before .before .before in
+    let a = turn .before .before .before .args in
+    sum-step (a .degrees .now) (a .x .now) _ _ _ _ _ (turn .loop .inv) (search needs) (sized .smaller .ensures) (c .product .ensures)
 
 returns : tie.Need-returns Inv-loop μ-loop
-returns c = sum-end (c .before .before .before .before .args .degrees .now) (c .before .before .before .before .args .x .now) _ _ _ (c .before .loop .inv) (c .loop-test .left)
+returns c =
+    let turn = c .before in
+    let a = turn .before .before .before .args in
+    sum-end (a .degrees .now) (a .x .now) _ _ _ (turn .loop .inv) (c .loop-test .left)
 
 pub sum-monomials-spec : {M : Type 1} → statement M
 sum-monomials-spec =

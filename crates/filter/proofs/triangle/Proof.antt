@@ -51,8 +51,9 @@ loop-less c = search needs
 
 loop-again : tie.Need-loop-again Inv-loop μ-loop
 loop-again c =
-    let l = c .before .before .before .loop in
-    let a = c .before .before .before .before .before .args in
+    let turn = c .before .before .before in
+    let l = turn .loop in
+    let a = turn .before .before .args in
     part-step (upTo (a .k)) (a .x .now) (l .sum) (l .at) (l .j) (l .j + 1) _ (l .inv) (omega (arith, upTo-length (a .k))) (upTo-at (a .k) (l .j) (search needs)) (c .product .ensures)
 
 returns : tie.Need-returns Inv-loop μ-loop
