@@ -129,11 +129,10 @@ pub(crate) fn put(key: &[u8], iv: &[u8], out: &mut [u8])
     requires { ⌜ (length (now out) ≤ 64) × Keyed 6 (now key) × (length (now iv) ≡ 128) × ((i : ℕ) → getD (now iv) i 0 ≤ 1) ⌝ }
     ensures { λ r. ⌜ now (out .exit) ≡ streamOf (keyIn 6 (now (key .entry))) (now (iv .entry)) (length (now (out .entry))) ⌝ }
 {
-    let z = kreyvium::stream64(
-        key_word(key, 0),
-        key_word(key, 64),
-        word(iv, 0),
-        word(iv, 64),
-    );
+    let k0 = key_word(key, 0);
+    let k1 = key_word(key, 64);
+    let v0 = word(iv, 0);
+    let v1 = word(iv, 64);
+    let z = kreyvium::stream64(k0, k1, v0, v1);
     put_front(z, out);
 }
