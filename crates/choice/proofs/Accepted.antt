@@ -16,7 +16,8 @@ use Rattle.instance.proofs.Judged.{key-small, outside-not}
 use Rattle.answer.proofs.Judges.{length-done, room-done, first-done-at, done-length, done-room, done-first}
 use Rattle.instance.proofs.Accepted.{not-outside}
 use Rattle.choice.specs.Choice.{chosen, rowOf, pastDraw, chooseAnswer}
-use Rattle.choice.specs.Draws.{Drawn, DrawsFit}
+use Rattle.choice.specs.Draws.{Drawn}
+use Rattle.choice.specs.Inner.{DrawsFit}
 
 -- Of the table: a row has no more places than the key, and the key at most 16,384.
 pub row-fits : (k : ℕ) → rowBits k ≤ keyBits k

@@ -13,7 +13,7 @@ use Rattle.answer.specs.declared.Answer.the-variants.{Done}
 use Rattle.answer.specs.Choose.{choose}
 use Rattle.instance.specs.Table.{keyBits, rowBits}
 use Rattle.choice.specs.Choice.{upTo, swap, swaps, chosen, rowOf, chooseAnswer}
-use Rattle.choice.specs.Draws.{DrawsFit}
+use Rattle.choice.specs.Inner.{DrawsFit}
 use Rattle.choice.proofs.Swaps.{upTo-length, upTo-at, swap-length, swaps-length}
 use Rattle.choice.proofs.Accepted.{counted, fit}
 

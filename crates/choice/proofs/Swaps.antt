@@ -11,7 +11,7 @@ use lib.Seq.{drop-cons, drop-length, getD-at, take-suc, length-take-le, set-appe
 use Rattle.answer.specs.Fronts.{over}
 use Rattle.answer.proofs.Over.{over-none, over-next}
 use Rattle.choice.specs.Choice.{upTo, swap, swaps, chosen}
-use Rattle.choice.specs.Draws.{DrawsFit}
+use Rattle.choice.specs.Inner.{DrawsFit}
 
 -- The numbers in order.
 pub upTo-length : (n : ℕ) → length (upTo n) ≡ n

@@ -1,5 +1,5 @@
--- What a caller lends for a row, and what the walk over the draws is lent.
-use Prim.Native.Nat.{ℕ, _+_, _-_, _<_, _≤_}
+-- What a caller lends for a row.
+use Prim.Native.Nat.{ℕ, _-_, _<_, _≤_}
 use mathlib.Core.Path.{_≡_}
 use mathlib.Core.List.{List}
 use lib.ListN.{length, getD}
@@ -11,8 +11,3 @@ pub record Drawn (inst : ℕ) (draws : List ℕ) : Type 0 where
   pub most : inst ≤ 5
   pub count : length draws ≡ rowBits inst
   pub low : (i : ℕ) → i < length draws → getD draws i 0 < keyBits inst - i
-
--- there are at most N draws, and each one's place is one of N
-pub record DrawsFit (N : ℕ) (draws : List ℕ) : Type 0 where
-  pub count : length draws ≤ N
-  pub low : (i : ℕ) → i < length draws → i + getD draws i 0 < N

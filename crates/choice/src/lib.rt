@@ -7,7 +7,7 @@ ghost use lib.ListN.{length, take};
 ghost use Rattle.answer.specs.First.{first};
 ghost use Rattle.answer.specs.Fronts.{over};
 ghost use Rattle.choice.specs.Choice.{upTo, swaps, chosen, pastDraw, chooseAnswer, Chosen};
-ghost use Rattle.choice.specs.Draws.{DrawsFit};
+ghost use Rattle.choice.specs.Inner.{DrawsFit};
 
 // The numbers of the wires, in order, at the front. A wire's number takes half a word: the fewer bytes, the sooner
 // they are set.
@@ -123,11 +123,7 @@ fn first_past(draws: &[u32], key: usize) -> usize
 fn judge(instance: u32, draws: &[u32], room: usize) -> Answer
     ensures { λ r. ⌜ r ≡ chooseAnswer instance (now (draws .entry)) «room» ⌝ }
 {
-    let wrong = Answer::Refused {
-        number: answer::INSTANCE,
-        list: 0,
-        place: 0,
-    };
+    let wrong = answer::refused(answer::INSTANCE, 0, 0);
     if instance < 1 {
         return wrong;
     }
@@ -148,11 +144,7 @@ fn judge(instance: u32, draws: &[u32], room: usize) -> Answer
     };
     let place = first_past(draws, key);
     if place < len {
-        return Answer::Refused {
-            number: answer::DRAW,
-            list: 1,
-            place,
-        };
+        return answer::refused(answer::DRAW, 1, place);
     }
     Answer::Done
 }

@@ -5,6 +5,9 @@ use mathlib.Core.List.{List, [], _∷_, _++_, append-nil}
 use native.Mathlib.Omega.{arith}
 use lib.ListN.{length, getD, take, drop}
 use lib.Seq.{length-take-le, drop-length}
+use Rattle.instance.specs.Table.{sizesOf}
+use Rattle.instance.specs.Keys.{Keyed, keyIn}
+use Rattle.instance.proofs.Keys.{key-size, key-bit}
 use Rattle.kreyvium.specs.Words.{bits, packed, bit, tops}
 use Rattle.kreyvium.specs.Kreyvium.{streamOf}
 use Rattle.kreyvium.proofs.Packed.{two-words}
@@ -30,10 +33,11 @@ whole z out front l e =
     (ap (λ (n : ℕ). drop n out) (sym l) ∙ drop-length out)
     ∙ append-nil (tops (length out) z)
 
-module _ (key iv : List ℕ) (k : length key ≡ 128) (v : length iv ≡ 128) (b : (i : ℕ) → getD key i 0 ≤ 1) (d : (i : ℕ) → getD iv i 0 ≤ 1) where
+module _ (key iv : List ℕ) (k : Keyed 6 key) (v : length iv ≡ 128) (d : (i : ℕ) → getD iv i 0 ≤ 1) where
   -- key and IV lent as two words each
-  pub stream-words : (k0 k1 v0 v1 n : ℕ) → k0 ≡ packed (take 64 (drop 0 key)) → k1 ≡ packed (take 64 (drop 64 key))
+  pub stream-words : (k0 k1 v0 v1 n : ℕ) → k0 ≡ packed (take 64 (drop 0 (keyIn 6 key))) → k1 ≡ packed (take 64 (drop 64 (keyIn 6 key)))
       → v0 ≡ packed (take 64 (drop 0 iv)) → v1 ≡ packed (take 64 (drop 64 iv))
-      → streamOf (bits 64 k0 ++ bits 64 k1) (bits 64 v0 ++ bits 64 v1) n ≡ streamOf key iv n
+      → streamOf (bits 64 k0 ++ bits 64 k1) (bits 64 v0 ++ bits 64 v1) n ≡ streamOf (keyIn 6 key) iv n
+  unfolding sizesOf
   stream-words k0 k1 v0 v1 n e0 e1 f0 f1 =
-      rw (e0, e1, f0, f1) (ap₂ (λ (x y : List ℕ). streamOf x y n) (two-words key k b) (two-words iv v d))
+      rw (e0, e1, f0, f1) (ap₂ (λ (x y : List ℕ). streamOf x y n) (two-words (keyIn 6 key) (key-size 6 key k) (key-bit 6 key k)) (two-words iv v d))

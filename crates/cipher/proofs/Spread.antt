@@ -5,16 +5,17 @@ use mathlib.Core.Logic.{⊎-elim}
 use mathlib.Core.List.{List}
 use native.Mathlib.Nat.{not-suc-le-zero, le-of-suc-le-suc, eq-or-lt-of-le}
 use native.Mathlib.Omega.{arith}
-use native.Mathlib.Numerals.{add-one}
+use native.Mathlib.Numerals.{add-one, towards-suc}
 use lib.Bits.{bitAnd}
 use lib.ListN.{length, set}
+use lib.Seq.{sets}
 use lib.Pow.{field, mod-mod-pow, shr-shr}
 use Rattle.answer.specs.Fronts.{over}
-use Rattle.answer.proofs.Over.{over-over}
+use Rattle.answer.proofs.Over.{over-over, over-sets}
 use Rattle.kreyvium.specs.Words.{bit}
 use Rattle.filter.specs.Filter.{tab}
-use Rattle.filter.proofs.Tab.{tab-more}
-use Rattle.cipher.specs.Apart.{fourSet}
+use Rattle.filter.proofs.Tab.{tab-length, tab-same, tab-add}
+use Rattle.cipher.specs.Inner.{lowFour}
 use Rattle.cipher.proofs.Block.{blockBit}
 
 -- what the code makes of them
@@ -50,38 +51,32 @@ spread-right b k h g =
     equal x y e = omega arith
 
 -- ---- bytes stored
-pub four-set : (x at : ℕ) (l : List ℕ) → set (set (set (set l at (x % 256)) (at + 1) (x / 256 % 256)) (at + 2) (x / 65536 % 256)) (at + 3) (x / 16777216 % 256) ≡ fourSet x at l
-unfolding fourSet
-four-set x at l = refl
+pub four-set : (x at : ℕ) (l : List ℕ) → set (set (set (set l at (x % 256)) (at + 1) (x / 2 ^ 8 % 256)) (at + 2) (x / 2 ^ 16 % 256)) (at + 3) (x / 2 ^ 24 % 256) ≡ sets l at (lowFour x)
+unfolding lowFour tab
+four-set x at l = rw (whole x) (simp towards-suc)
+  where
+    whole : (x : ℕ) → x / 1 ≡ x
+    whole x = omega arith
 
 module _ (f : ℕ → ℕ) (old : List ℕ) where
   four-more : (i x : ℕ) → i + 4 ≤ length old → ((k : ℕ) → k < 4 → x / 2 ^ (8 * k) % 256 ≡ f (i + k))
-      → fourSet x i (over (tab f i) old) ≡ over (tab f (i + 4)) old
-  unfolding fourSet
+      → sets (over (tab f i) old) i (lowFour x) ≡ over (tab f (i + 4)) old
+  unfolding lowFour
   four-more i x h r =
-      let at : ℕ → List ℕ = λ k. over (tab f k) old in
-      let e0 : x % 256 ≡ f i = ap (λ (y : ℕ). y % 256) (sym (whole x)) ∙ r 0 (omega arith) ∙ ap f (omega arith) in
-      let e2 : i + 1 + 1 ≡ i + 2 = omega arith in
-      let e3 : i + 2 + 1 ≡ i + 3 = omega arith in
-      let e4 : i + 3 + 1 ≡ i + 4 = omega arith in
-      ap (λ (l : List ℕ). set (set (set l (i + 1) (x / 2 ^ 8 % 256)) (i + 2) (x / 2 ^ 16 % 256)) (i + 3) (x / 2 ^ 24 % 256)) (tab-more f old i _ (omega arith) e0)
-      ∙ ap (λ (l : List ℕ). set (set l (i + 2) (x / 2 ^ 16 % 256)) (i + 3) (x / 2 ^ 24 % 256)) (tab-more f old (i + 1) _ (omega arith) (r 1 (omega arith)) ∙ ap at e2)
-      ∙ ap (λ (l : List ℕ). set l (i + 3) (x / 2 ^ 24 % 256)) (tab-more f old (i + 2) _ (omega arith) (r 2 (omega arith)) ∙ ap at e3)
-      ∙ tab-more f old (i + 3) _ (omega arith) (r 3 (omega arith))
-      ∙ ap at e4
-    where
-      whole : (x : ℕ) → x / 1 ≡ x
-      whole x = omega arith
+      let w = tab (λ k. f (i + k)) 4 in
+      ap (sets (over (tab f i) old) i) (tab-same _ _ 4 r)
+      ∙ over-sets (tab f i) w old i (tab-length f i) (omega (arith, tab-length (λ k. f (i + k)) 4))
+      ∙ ap (λ (t : List ℕ). over t old) (sym (tab-add f i 4))
 
   eight-more : (i x : ℕ) → i + 8 ≤ length old → ((k : ℕ) → k < 8 → x / 2 ^ (8 * k) % 256 ≡ f (i + k))
-      → fourSet (x / 2 ^ 32) (i + 4) (fourSet x i (over (tab f i) old)) ≡ over (tab f (i + 8)) old
+      → sets (sets (over (tab f i) old) i (lowFour x)) (i + 4) (lowFour (x / 2 ^ 32)) ≡ over (tab f (i + 8)) old
   eight-more i x h r =
-      ap (fourSet (x / 2 ^ 32) (i + 4)) (four-more i x (omega arith) (λ k l. r k (omega arith)))
-      ∙ four-more (i + 4) (x / 2 ^ 32) (omega arith) high
+      ap (λ (l : List ℕ). sets l (i + 4) (lowFour (x / 2 ^ 32))) (four-more i x (omega arith) (λ k l. r k (omega arith)))
+      ∙ four-more (i + 4) (x / 2 ^ 32) (omega arith) upper
       ∙ ap (λ (k : ℕ). over (tab f k) old) (omega arith)
     where
-      high : (k : ℕ) → k < 4 → x / 2 ^ 32 / 2 ^ (8 * k) % 256 ≡ f (i + 4 + k)
-      high k l =
+      upper : (k : ℕ) → k < 4 → x / 2 ^ 32 / 2 ^ (8 * k) % 256 ≡ f (i + 4 + k)
+      upper k l =
           let e : 32 + 8 * k ≡ 8 * (k + 4) = omega arith in
           let g : i + (k + 4) ≡ i + 4 + k = omega arith in
           ap (λ (y : ℕ). y % 256) (shr-shr x 32 (8 * k) ∙ ap (λ (j : ℕ). x / 2 ^ j) e) ∙ r (k + 4) (omega arith) ∙ ap f g
@@ -100,12 +95,12 @@ byte-bit z i k h l =
     ∙ mod-mod-pow (w / 2 ^ j) k 1
     ∙ ap (λ (y : ℕ). y % 2) (shr-shr z (56 - i) j ∙ ap (λ (n : ℕ). z / 2 ^ n) g)
 
-pub block-eight : (z i x : ℕ) (old out : List ℕ) → length old ≤ 64 → i + 8 ≤ length old
+pub block-eight : (z i x : ℕ) (old out : List ℕ) → i + 8 ≤ 64 → i + 8 ≤ length old
     → ((k : ℕ) → k < 8 → x / 2 ^ (8 * k) % 256 ≡ bit (z / 2 ^ (56 - i) % 256) (7 - k)) → out ≡ over (tab (blockBit z) i) old
-    → fourSet (x / 2 ^ 32) (i + 4) (fourSet x i out) ≡ over (tab (blockBit z) (i + 8)) old
+    → sets (sets out i (lowFour x)) (i + 4) (lowFour (x / 2 ^ 32)) ≡ over (tab (blockBit z) (i + 8)) old
 block-eight z i x old out g h r e =
-    ap (λ (l : List ℕ). fourSet (x / 2 ^ 32) (i + 4) (fourSet x i l)) e
-    ∙ eight-more (blockBit z) old i x h (λ k l. r k l ∙ byte-bit z i k (omega arith) l)
+    ap (λ (l : List ℕ). sets (sets l i (lowFour x)) (i + 4) (lowFour (x / 2 ^ 32))) e
+    ∙ eight-more (blockBit z) old i x h (λ k l. r k l ∙ byte-bit z i k g l)
 
 -- a front that stands in a list already
 pub over-twice : (t old out : List ℕ) → out ≡ over t old → out ≡ over t out

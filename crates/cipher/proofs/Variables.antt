@@ -15,10 +15,10 @@ use Rattle.filter.specs.Instances.{filterOf, rowBit}
 use Rattle.filter.proofs.Tab.{tab-same, tab-add}
 use Rattle.cipher.specs.Rows.{streamBit}
 
--- the low bit of the code's word is the variable
-pub low-bit : (key row w : List ℕ) (j : ℕ) → bitXor (getD key (getD row j 0) 0) (getD w j 0) % 2 ≡ var key row w j
+-- the low bit of the code's word is the variable, where that of k is the key's
+pub low-bit : (bits row w : List ℕ) (j k : ℕ) → k % 2 ≡ getD bits (getD row j 0) 0 → bitXor k (getD w j 0) % 2 ≡ var bits row w j
 unfolding var
-low-bit key row w j = omega (arith, xor-add-and (getD key (getD row j 0) 0) (getD w j 0))
+low-bit bits row w j k e = omega (arith, xor-add-and k (getD w j 0))
 
 -- one more place whose low bit is f's value
 pub filled-more : (f : ℕ → ℕ) (l : List ℕ) (t v : ℕ) → t < length l → v % 2 ≡ f t → ((s : ℕ) → s < t → getD l s 0 % 2 ≡ f s)
@@ -57,10 +57,10 @@ row-in i m n h =
     rw (← row-next i n) (mul-le-mul-right n l)
 
 -- a keystream bit over the parts of the lists from row i on
-pub bit-is : (inst : ℕ) (key idx wh : List ℕ) (i : ℕ) {r w : List ℕ} {n at : ℕ} → n ≡ rowBits inst → at ≡ i * n → r ≡ drop at idx → w ≡ drop at wh
-    → filterOf inst (tab (var key r w) n) ≡ streamBit inst key idx wh i
+pub bit-is : (inst : ℕ) (bits idx wh : List ℕ) (i : ℕ) {r w : List ℕ} {n at : ℕ} → n ≡ rowBits inst → at ≡ i * n → r ≡ drop at idx → w ≡ drop at wh
+    → filterOf inst (tab (var bits r w) n) ≡ streamBit inst bits idx wh i
 unfolding streamBit rowBit
-bit-is inst key idx wh i e a p q = rw (p, q, a, e)
+bit-is inst bits idx wh i e a p q = rw (p, q, a, e)
 
 -- place j of row i is one of the m rows' places
 pub within : (i m n j : ℕ) {k : ℕ} → n ≡ k → i < m → j < n → i * n + j < m * k

@@ -1,4 +1,3 @@
 pub mod Rows
 pub mod Cipher
-pub mod Lent
-pub mod Apart
+pub mod Inner

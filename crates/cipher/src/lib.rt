@@ -9,13 +9,14 @@ ghost use Prim.Native.Nat.{_≤_};
 ghost use lib.ListN.{length, take};
 ghost use Rattle.answer.specs.Bits.{added};
 ghost use Rattle.answer.specs.Fronts.{over};
-ghost use Rattle.cipher.specs.Lent.{Lent};
+ghost use Rattle.instance.specs.Wired.{Wired};
+ghost use Rattle.instance.specs.Keys.{Keyed, keyIn};
 ghost use Rattle.cipher.specs.Cipher.{keystreamOf, Streamed, Ciphered};
 
 // The keystream of an accepted wiring, one bit for each place of out.
 fn put_stream(instance: u32, key: &[u8], indices: &[u32], whitening: &[u8], out: &mut [u8])
-    requires { ⌜ Lent instance (length (now out)) (now key) (now indices) (now whitening) ⌝ }
-    ensures { λ r. ⌜ now (out .exit) ≡ keystreamOf instance (length (now (out .entry))) (now (key .entry)) (now (indices .entry)) (now (whitening .entry)) ⌝ }
+    requires { ⌜ Wired instance (length (now out)) (now indices) (now whitening) × Keyed instance (now key) ⌝ }
+    ensures { λ r. ⌜ now (out .exit) ≡ keystreamOf instance (length (now (out .entry))) (keyIn instance (now (key .entry))) (now (indices .entry)) (now (whitening .entry)) ⌝ }
 {
     if instance == 6 {
         stream::put(key, whitening, out);
@@ -94,8 +95,8 @@ fn with_kreyvium(
     let Answer::Done = r else {
         return r;
     };
-    let k0 = stream::word(key, 0);
-    let k1 = stream::word(key, 64);
+    let k0 = stream::key_word(key, 0);
+    let k1 = stream::key_word(key, 64);
     let v0 = stream::word(iv, 0);
     let v1 = stream::word(iv, 64);
     let n = m as usize;

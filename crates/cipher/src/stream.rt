@@ -1,11 +1,13 @@
-// Instance 6: Kreyvium's keystream over a key and an IV lent bit by bit.
+// Instance 6: Kreyvium's keystream over a key and an IV.
 ghost use mathlib.Core.Path.{_≡_};
 ghost use Prim.Native.Nat.{ℕ, _+_, _*_, _-_, _/_, _%_, _^_, _<_, _≤_};
 ghost use lib.ListN.{length, getD, take, drop};
+ghost use lib.Seq.{sets};
 ghost use Rattle.answer.specs.Fronts.{over};
 ghost use Rattle.kreyvium.specs.Words.{packed, bit, tops};
 ghost use Rattle.kreyvium.specs.Kreyvium.{streamOf};
-ghost use Rattle.cipher.specs.Apart.{apart, fourSet};
+ghost use Rattle.instance.specs.Keys.{Keyed, keyIn};
+ghost use Rattle.cipher.specs.Inner.{apart, lowFour};
 
 // One bit of a list as a number.
 fn one(s: &[u8], at: usize) -> u64
@@ -47,6 +49,14 @@ pub(crate) fn word(s: &[u8], from: usize) -> u64
     w
 }
 
+// 64 bits of the key, the first lowest. No other function here knows how a key is lent.
+pub(crate) fn key_word(key: &[u8], from: usize) -> u64
+    requires { ⌜ Keyed 6 (now key) × (from ≤ 64) ⌝ }
+    ensures { λ r. ⌜ r ≡ packed (take 64 (drop from (keyIn 6 (now (key .entry))))) ⌝ }
+{
+    word(key, from)
+}
+
 // Eight bits as eight bytes, the highest bit first. The first factor has a one at places 0, 9, .. 54 and takes bit
 // 7 - k to place 7 + 8 * k, for k below 7; no two bits meet. The lowest bit is put in by itself.
 fn spread(b: u64) -> u64
@@ -59,7 +69,7 @@ fn spread(b: u64) -> u64
 // Four bytes of a word at a place, the lowest first.
 fn put_four(x: u64, at: usize, out: &mut [u8])
     requires { ⌜ at + 4 ≤ length (now out) ⌝ }
-    ensures { λ r. ⌜ now (out .exit) ≡ fourSet x at (now (out .entry)) ⌝ }
+    ensures { λ r. ⌜ now (out .exit) ≡ sets (now (out .entry)) at (lowFour x) ⌝ }
 {
     out[at] = (x % 256) as u8;
     out[at + 1] = ((x >> 8) % 256) as u8;
@@ -116,9 +126,13 @@ pub(crate) fn put_front(z: u64, out: &mut [u8])
 
 // The keystream's first bits, one for each place of out.
 pub(crate) fn put(key: &[u8], iv: &[u8], out: &mut [u8])
-    requires { ⌜ (length (now out) ≤ 64) × (length (now key) ≡ 128) × (length (now iv) ≡ 128) × ((i : ℕ) → getD (now key) i 0 ≤ 1) × ((i : ℕ) → getD (now iv) i 0 ≤ 1) ⌝ }
-    ensures { λ r. ⌜ now (out .exit) ≡ streamOf (now (key .entry)) (now (iv .entry)) (length (now (out .entry))) ⌝ }
+    requires { ⌜ (length (now out) ≤ 64) × Keyed 6 (now key) × (length (now iv) ≡ 128) × ((i : ℕ) → getD (now iv) i 0 ≤ 1) ⌝ }
+    ensures { λ r. ⌜ now (out .exit) ≡ streamOf (keyIn 6 (now (key .entry))) (now (iv .entry)) (length (now (out .entry))) ⌝ }
 {
-    let z = kreyvium::stream64(word(key, 0), word(key, 64), word(iv, 0), word(iv, 64));
+    let k0 = key_word(key, 0);
+    let k1 = key_word(key, 64);
+    let v0 = word(iv, 0);
+    let v1 = word(iv, 64);
+    let z = kreyvium::stream64(k0, k1, v0, v1);
     put_front(z, out);
 }

@@ -1,51 +1,12 @@
-// What a cipher call is lent, judged in the rules' order. `list` is the indices' place among the call's
-// lists; the whitening or IV and the result come after it.
+// What a cipher call is lent, judged in the rules' order.
 use answer::Answer;
 ghost use mathlib.Core.Path.{_≡_};
-ghost use Prim.Native.Nat.{_≤_};
 ghost use Rattle.answer.specs.Answers.{_▹_};
 ghost use Rattle.answer.specs.Bits.{bitsAnswer};
-ghost use Rattle.instance.specs.Table.{keyBits};
-ghost use Rattle.answer.specs.Judges.{lengthAnswer};
-ghost use Rattle.judging.specs.Judging.{wiringAnswer, keystreamAnswer, encipherAnswer};
 ghost use Rattle.instance.specs.Judging.{wiringLengths};
-
-// 3 on the indices and on the whitening or IV, of which there are so many.
-fn wiring_lengths(instance: u32, m: u32, indices: usize, whitening: usize, list: u32) -> Answer
-    requires { ⌜ list ≤ 3 ⌝ }
-    ensures { λ r. ⌜ r ≡ wiringLengths list instance m indices whitening ⌝ }
-{
-    let row = instance::row_bits(instance);
-    let r = answer::exact(indices, (m as usize) * row, list);
-    let Answer::Done = r else {
-        return r;
-    };
-    answer::exact(whitening, instance::whitening_bits(instance, m), list + 1)
-}
-
-// 5, 6 and 7, and 8 on the result, for which room places are lent.
-fn wiring(
-    instance: u32,
-    m: u32,
-    indices: &[u32],
-    whitening: &[u8],
-    room: usize,
-    list: u32,
-) -> Answer
-    requires { ⌜ list ≤ 3 ⌝ }
-    ensures { λ r. ⌜ r ≡ wiringAnswer list instance m (now (indices .entry)) (now (whitening .entry)) room ⌝ }
-{
-    let sizes = instance::sizes_of(instance);
-    let r = instance::rows(indices, sizes.key, sizes.row, list);
-    let Answer::Done = r else {
-        return r;
-    };
-    let s = instance::whitening(instance, whitening, list + 1);
-    let Answer::Done = s else {
-        return s;
-    };
-    answer::room(room, m as usize, list + 2)
-}
+ghost use Rattle.instance.specs.Keys.{keyLengthAnswer, keyBitsAnswer};
+ghost use Rattle.judging.specs.Judging.{keystreamAnswer, encipherAnswer};
+ghost use Rattle.judging.specs.Inner.{recordLengths, lentAnswer, resultAnswer};
 
 // What keystream is lent; room places for the result.
 pub fn keystream(
@@ -66,28 +27,31 @@ pub fn keystream(
     let Answer::Done = s else {
         return s;
     };
-    let t = key_bits(key, whitening);
+    let t = key_bits(instance, key, whitening);
     let Answer::Done = t else {
         return t;
     };
-    wiring(instance, m, indices, whitening, room, 2)
+    let u = instance::wiring_rows(instance, indices, whitening, 2);
+    let Answer::Done = u else {
+        return u;
+    };
+    answer::room(room, m as usize, 4)
 }
 
 fn key_lengths(instance: u32, m: u32, key: usize, indices: usize, whitening: usize) -> Answer
-    ensures { λ r. ⌜ r ≡ lengthAnswer 1 key (keyBits instance) ▹ wiringLengths 2 instance m indices whitening ⌝ }
+    ensures { λ r. ⌜ r ≡ keyLengthAnswer 1 instance key ▹ wiringLengths 2 instance m indices whitening ⌝ }
 {
-    let sizes = instance::sizes_of(instance);
-    let r = answer::exact(key, sizes.key, 1);
+    let r = instance::key_length(instance, key, 1);
     let Answer::Done = r else {
         return r;
     };
-    wiring_lengths(instance, m, indices, whitening, 2)
+    instance::wiring_lengths(instance, m, indices, whitening, 2)
 }
 
-fn key_bits(key: &[u8], whitening: &[u8]) -> Answer
-    ensures { λ r. ⌜ r ≡ bitsAnswer 1 (now (key .entry)) ▹ bitsAnswer 3 (now (whitening .entry)) ⌝ }
+fn key_bits(instance: u32, key: &[u8], whitening: &[u8]) -> Answer
+    ensures { λ r. ⌜ r ≡ keyBitsAnswer 1 instance (now (key .entry)) ▹ bitsAnswer 3 (now (whitening .entry)) ⌝ }
 {
-    let r = answer::bits(key, 1);
+    let r = instance::key_bits(instance, key, 1);
     let Answer::Done = r else {
         return r;
     };
@@ -106,6 +70,53 @@ pub fn encipher(
 ) -> Answer
     ensures { λ r. ⌜ r ≡ encipherAnswer instance m (now (key .entry)) (now («record» .entry)) (now (indices .entry)) (now (whitening .entry)) room ⌝ }
 {
+    let r = lent(instance, m, key, record, indices, whitening);
+    let Answer::Done = r else {
+        return r;
+    };
+    let s = instance::wiring_rows(instance, indices, whitening, 3);
+    let Answer::Done = s else {
+        return s;
+    };
+    result(m, room)
+}
+
+// The same for instance 6. Its index list is empty and its IV is no whitening: there is no 5, 6 or 7.
+pub fn kreyvium(
+    m: u32,
+    key: &[u8],
+    record: &[u8],
+    indices: &[u32],
+    iv: &[u8],
+    room: usize,
+) -> Answer
+    ensures { λ r. ⌜ r ≡ encipherAnswer 6 m (now (key .entry)) (now («record» .entry)) (now (indices .entry)) (now (iv .entry)) room ⌝ }
+{
+    let r = lent(6, m, key, record, indices, iv);
+    let Answer::Done = r else {
+        return r;
+    };
+    result(m, room)
+}
+
+// 8 on the result of both, for which room places are lent.
+fn result(m: u32, room: usize) -> Answer
+    ensures { λ r. ⌜ r ≡ resultAnswer m room ⌝ }
+{
+    answer::room(room, m as usize, 5)
+}
+
+// 1 to 4 on what both are lent.
+fn lent(
+    instance: u32,
+    m: u32,
+    key: &[u8],
+    record: &[u8],
+    indices: &[u32],
+    whitening: &[u8],
+) -> Answer
+    ensures { λ r. ⌜ r ≡ lentAnswer instance m (now (key .entry)) (now («record» .entry)) (now (indices .entry)) (now (whitening .entry)) ⌝ }
+{
     let r = instance::numbers(instance, m);
     let Answer::Done = r else {
         return r;
@@ -121,37 +132,7 @@ pub fn encipher(
     let Answer::Done = s else {
         return s;
     };
-    let t = record_bits(key, record, whitening);
-    let Answer::Done = t else {
-        return t;
-    };
-    wiring(instance, m, indices, whitening, room, 3)
-}
-
-// The same for instance 6. Its index list is empty and its IV is no whitening: there is no 5, 6 or 7.
-pub fn kreyvium(
-    m: u32,
-    key: &[u8],
-    record: &[u8],
-    indices: &[u32],
-    iv: &[u8],
-    room: usize,
-) -> Answer
-    ensures { λ r. ⌜ r ≡ encipherAnswer 6 m (now (key .entry)) (now («record» .entry)) (now (indices .entry)) (now (iv .entry)) room ⌝ }
-{
-    let r = instance::numbers(6, m);
-    let Answer::Done = r else {
-        return r;
-    };
-    let s = record_lengths(6, m, key.len(), record.len(), indices.len(), iv.len());
-    let Answer::Done = s else {
-        return s;
-    };
-    let t = record_bits(key, record, iv);
-    let Answer::Done = t else {
-        return t;
-    };
-    answer::room(room, m as usize, 5)
+    record_bits(instance, key, record, whitening)
 }
 
 fn record_lengths(
@@ -162,10 +143,9 @@ fn record_lengths(
     indices: usize,
     whitening: usize,
 ) -> Answer
-    ensures { λ r. ⌜ r ≡ lengthAnswer 1 key (keyBits instance) ▹ lengthAnswer 2 «record» m ▹ wiringLengths 3 instance m indices whitening ⌝ }
+    ensures { λ r. ⌜ r ≡ recordLengths instance m key «record» indices whitening ⌝ }
 {
-    let sizes = instance::sizes_of(instance);
-    let r = answer::exact(key, sizes.key, 1);
+    let r = instance::key_length(instance, key, 1);
     let Answer::Done = r else {
         return r;
     };
@@ -173,13 +153,13 @@ fn record_lengths(
     let Answer::Done = s else {
         return s;
     };
-    wiring_lengths(instance, m, indices, whitening, 3)
+    instance::wiring_lengths(instance, m, indices, whitening, 3)
 }
 
-fn record_bits(key: &[u8], record: &[u8], whitening: &[u8]) -> Answer
-    ensures { λ r. ⌜ r ≡ bitsAnswer 1 (now (key .entry)) ▹ bitsAnswer 2 (now («record» .entry)) ▹ bitsAnswer 4 (now (whitening .entry)) ⌝ }
+fn record_bits(instance: u32, key: &[u8], record: &[u8], whitening: &[u8]) -> Answer
+    ensures { λ r. ⌜ r ≡ keyBitsAnswer 1 instance (now (key .entry)) ▹ bitsAnswer 2 (now («record» .entry)) ▹ bitsAnswer 4 (now (whitening .entry)) ⌝ }
 {
-    let r = answer::bits(key, 1);
+    let r = instance::key_bits(instance, key, 1);
     let Answer::Done = r else {
         return r;
     };

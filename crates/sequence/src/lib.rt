@@ -71,16 +71,6 @@ pub fn iv_above(p0: u64, p1: u64, v0: u64, v1: u64) -> bool
     sum < v0
 }
 
-fn bad_frame(list: u32, place: usize) -> Answer
-    ensures { λ r. ⌜ r ≡ Answer.Refused 15 list place ⌝ }
-{
-    Answer::Refused {
-        number: answer::FRAME,
-        list,
-        place,
-    }
-}
-
 // 15 and 16 of the frames from the second on, of those that end by `whole`. The IV before is carried along in two words.
 fn later_frames(s: &[u8], whole: usize, list: u32) -> Answer
     requires { ⌜ (whole % frameSize ≡ 0) × (frameSize ≤ whole) × (whole ≤ length (now s)) × (frameAnswer list (now s) 0 ≡ Answer.Done) ⌝ }
@@ -91,16 +81,12 @@ fn later_frames(s: &[u8], whole: usize, list: u32) -> Answer
     let mut at: usize = FRAME_SIZE;
     while at < whole {
         if !marked(s, at) {
-            return bad_frame(list, at);
+            return answer::refused(answer::FRAME, list, at);
         }
         let v0 = eight_bytes(s, at + 2);
         let v1 = eight_bytes(s, at + 10);
         if !iv_above(p0, p1, v0, v1) {
-            return Answer::Refused {
-                number: answer::ORDER,
-                list,
-                place: at,
-            };
+            return answer::refused(answer::ORDER, list, at);
         }
         p0 = v0;
         p1 = v1;
@@ -118,7 +104,7 @@ fn whole_frames(s: &[u8], whole: usize, list: u32) -> Answer
         return Answer::Done;
     }
     if !marked(s, 0) {
-        return bad_frame(list, 0);
+        return answer::refused(answer::FRAME, list, 0);
     }
     later_frames(s, whole, list)
 }
@@ -134,7 +120,7 @@ pub fn file(s: &[u8], list: u32) -> Answer
         return r;
     };
     if whole < len {
-        return bad_frame(list, whole);
+        return answer::refused(answer::FRAME, list, whole);
     }
     Answer::Done
 }

@@ -12,9 +12,13 @@ use borrow.Author.Needs.{needs}
 use Rattle.choice.proofs.choose.Statement.{statement}
 use Rattle.choice.proofs.choose.Tie as tie
 
--- the call is accepted
+-- the call
+abbrev start : tie.After-judge → tie.Start
+start c = c .before .before .before
+
+-- it is accepted
 accepted : (c : tie.After-enum-told)
-    → let a = c .before .before .before .before .before .args in chooseAnswer (a .instance) (now (a .draws)) (length (now (a .row))) ≡ Done
+    → let a = start (c .before .before) .args in chooseAnswer (a .instance) (now (a .draws)) (length (now (a .row))) ≡ Done
 accepted c = sym (c .before .before .judge .ensures) ∙ c .enum-told .given .1
 
 judge-requires : tie.Need-judge-requires
@@ -31,7 +35,7 @@ returns c =
     let d = c .before .before in
     record {
       answered = d .judge .ensures;
-      written = kept _ (now (d .before .before .before .args .row)) (c .enum-told2 .given .1);
+      written = kept _ (now (start d .args .row)) (c .enum-told2 .given .1);
     }
 
 sizes-of-requires : tie.Need-sizes-of-requires
@@ -49,10 +53,14 @@ same-length c = search needs
 returns-2 : tie.Need-returns-2
 returns-2 c =
     let d = c .before .before .before .before in
-    let e = accepted (d .before) in
+    let t = d .before in
+    let row = now (start (t .before .before) .args .row) in
     record {
-      answered = sym (d .before .enum-told .given .1) ∙ d .before .before .before .judge .ensures;
-      written = c .before .before .put .ensures ∙ ap (λ (t : List ℕ). over t (now (d .before .before .before .before .before .before .args .row))) (row-of _ _ _ e (d .sizes-of .ensures)) ∙ made _ _ refl;
+      answered = sym (accepted t);
+      written =
+          c .before .before .put .ensures
+          ∙ ap (λ (front : List ℕ). over front row) (row-of _ _ _ (accepted t) (d .sizes-of .ensures))
+          ∙ made _ _ refl;
     }
 
 pub choose-spec : {M : Type 1} → statement M

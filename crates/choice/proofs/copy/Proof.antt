@@ -40,8 +40,9 @@ loop-less c = search needs
 
 loop-again : tie.Need-loop-again Inv-loop μ-loop
 loop-again c =
-    let l = c .before .before .before .loop in
-    let a = c .before .before .before .before .before .before .args in
+    let at = c .before .before .before in
+    let l = at .loop in
+    let a = at .before .before .before .args in
     (search needs, rw (l .inv .1, c .wide .ensures) (copy-more (a .wires .now) (a .row .now) (l .i) (omega arith) (omega arith)), search needs)
 
 same-length : tie.Need-same-length Inv-loop μ-loop

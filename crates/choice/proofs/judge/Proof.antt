@@ -16,18 +16,22 @@ use borrow.Author.Needs.{needs}
 use Rattle.choice.proofs.judge.Statement.{statement}
 use Rattle.choice.proofs.judge.Tie as tie
 
+-- the call
+abbrev start : tie.After-sizes-of → tie.Start
+start c = c .before .before .before .before .before
+
 -- What was lent; the row of answers goes on once the instance, the number of draws and the room have passed.
 abbrev sizes : tie.After-sizes-of → Sizes
 sizes c = c .sizes-of .result
 
 abbrev draws : tie.After-sizes-of → List ℕ
-draws c = now (c .before .before .before .before .args .draws)
+draws c = now (start c .args .draws)
 
 abbrev space : tie.After-sizes-of → ℕ
-space c = c .before .before .before .before .args .room
+space c = start c .args .room
 
 abbrev whole : tie.After-sizes-of → Answer
-whole c = chooseAnswer (c .before .before .before .before .args .instance) (draws c) (space c)
+whole c = chooseAnswer (start c .args .instance) (draws c) (space c)
 
 abbrev past : tie.After-sizes-of → Answer
 past c = firstAnswer 14 1 (pastDraw (sizes c .key) (draws c)) (draws c)
@@ -42,17 +46,23 @@ counted c h =
     numbered (c .before .before .before) (go (c .before .before .exact .ensures) (c .enum-told .given .1) h)
 
 roomed : (c : tie.After-enum-told3) {r : Answer}
-    → let d = c .before .before .before .before .before .before in r ≡ past d → r ≡ whole d
+    → let e = c .before .before .before in
+    let d = e .before .before .before in r ≡ past d → r ≡ whole d
 roomed c h =
     counted (c .before .before .before) (go (c .before .before .room .ensures) (c .enum-told3 .given .1) h)
 
+refused-requires : tie.Need-refused-requires
+refused-requires c κs = search needs
+
 returns : tie.Need-returns
 unfolding chooseAnswer
-returns c = stop _ (refuse-yes _ _ _ (rw (lt-ltb _ _ (c .if1 .taken)))) refl
+returns c = c .before .refused .ensures ∙ stop _ (refuse-yes _ _ _ (rw (lt-ltb _ _ (c .if1 .taken)))) refl
 
 returns-2 : tie.Need-returns-2
 unfolding chooseAnswer
-returns-2 c = stop _ (refuse-yes _ _ _ (rw (le-ltb _ _ (c .before .if1 .left), lt-ltb _ _ (c .if2 .taken)))) refl
+returns-2 c =
+    c .before .before .refused .ensures
+    ∙ stop _ (refuse-yes _ _ _ (rw (le-ltb _ _ (c .before .if1 .left), lt-ltb _ _ (c .if2 .taken)))) refl
 
 sizes-of-requires : tie.Need-sizes-of-requires
 sizes-of-requires c κs = search needs
@@ -86,8 +96,13 @@ first-past-requires c κs =
     let d = c .before .before .before .before .before in
     few _ (draws (d .before)) (space (d .before)) _ (d .before .sizes-of .ensures) (sym (d .exact .ensures) ∙ c .before .before .before .enum-told .given .1)
 
+refused-requires-2 : tie.Need-refused-requires-2
+refused-requires-2 c κs = search needs
+
 returns-5 : tie.Need-returns-5
-returns-5 c = roomed (c .before .before) (first-stop 14 1 _ _ _ (c .before .first-past .ensures) (c .if3 .taken))
+returns-5 c =
+    let t = c .before in
+    c .refused2 .ensures ∙ roomed (t .before .before) (first-stop 14 1 _ _ _ (t .before .first-past .ensures) (t .if3 .taken))
 
 returns-6 : tie.Need-returns-6
 returns-6 c = roomed (c .before .before) (sym (first-go 14 1 _ _ _ (c .before .first-past .ensures) (c .if3 .left)))
@@ -96,6 +111,7 @@ pub judge-spec : {M : Type 1} → statement M
 judge-spec =
     tie.close
     (tie.spec
+    refused-requires
     returns
     returns-2
     sizes-of-requires
@@ -108,5 +124,6 @@ judge-spec =
     enum-told-4
     returns-4
     first-past-requires
+    refused-requires-2
     returns-5
     returns-6)

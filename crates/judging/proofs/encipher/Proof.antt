@@ -1,11 +1,11 @@
 use Rattle.answer.proofs.Rows.{stop, go}
-use Rattle.judging.specs.Judging.{encipherAnswer}
+use Rattle.judging.proofs.Shared.{lent-stop, lent-go}
 use borrow.Author.Needs.{needs}
 use Rattle.judging.proofs.encipher.Statement.{statement}
 use Rattle.judging.proofs.encipher.Tie as tie
 
-numbers-requires : tie.Need-numbers-requires
-numbers-requires c κs = search needs
+lent-requires : tie.Need-lent-requires
+lent-requires c κs = search needs
 
 enum-told : tie.Need-enum-told
 enum-told c = search needs
@@ -14,11 +14,10 @@ enum-told-2 : tie.Need-enum-told-2
 enum-told-2 c = search needs
 
 returns : tie.Need-returns
-unfolding encipherAnswer
-returns c = stop _ (c .before .before .numbers .ensures) (c .enum-told2 .given .1)
+returns c = lent-stop _ _ _ _ _ _ _ (c .before .before .lent .ensures) (c .enum-told2 .given .1)
 
-record-lengths-requires : tie.Need-record-lengths-requires
-record-lengths-requires c κs = search needs
+wiring-rows-requires : tie.Need-wiring-rows-requires
+wiring-rows-requires c κs = search needs
 
 enum-told-3 : tie.Need-enum-told-3
 enum-told-3 c = search needs
@@ -27,57 +26,31 @@ enum-told-4 : tie.Need-enum-told-4
 enum-told-4 c = search needs
 
 returns-2 : tie.Need-returns-2
-unfolding encipherAnswer
 returns-2 c =
-    let l = c .before .before in
-    let n = l .before .before .before in
-    go (n .numbers .ensures) (l .before .enum-told .given .1) (stop _ (l .record-lengths .ensures) (c .enum-told4 .given .1))
+    let w = c .before .before in
+    lent-go _ _ _ _ _ _ _ (w .before .before .before .lent .ensures) (w .before .enum-told .given .1)
+    (stop _ (w .wiring-rows .ensures) (c .enum-told4 .given .1))
 
-record-bits-requires : tie.Need-record-bits-requires
-record-bits-requires c κs = search needs
-
-enum-told-5 : tie.Need-enum-told-5
-enum-told-5 c = search needs
-
-enum-told-6 : tie.Need-enum-told-6
-enum-told-6 c = search needs
+result-requires : tie.Need-result-requires
+result-requires c κs = search needs
 
 returns-3 : tie.Need-returns-3
-unfolding encipherAnswer
 returns-3 c =
-    let b = c .before .before in
-    let l = b .before .before .before in
-    let n = l .before .before .before in
-    go (n .numbers .ensures) (l .before .enum-told .given .1)
-    (go (l .record-lengths .ensures) (b .before .enum-told3 .given .1) (stop _ (b .record-bits .ensures) (c .enum-told6 .given .1)))
-
-wiring-requires : tie.Need-wiring-requires
-wiring-requires c κs = search needs
-
-returns-4 : tie.Need-returns-4
-unfolding encipherAnswer
-returns-4 c =
-    let b = c .before .before .before in
-    let l = b .before .before .before in
-    let n = l .before .before .before in
-    go (n .numbers .ensures) (l .before .enum-told .given .1)
-    (go (l .record-lengths .ensures) (b .before .enum-told3 .given .1) (go (b .record-bits .ensures) (c .before .enum-told5 .given .1) (c .wiring .ensures)))
+    let w = c .before .before .before in
+    lent-go _ _ _ _ _ _ _ (w .before .before .before .lent .ensures) (w .before .enum-told .given .1)
+    (go (w .wiring-rows .ensures) (c .before .enum-told3 .given .1) (c .result .ensures))
 
 pub encipher-spec : {M : Type 1} → statement M
 encipher-spec =
     tie.close
     (tie.spec
-    numbers-requires
+    lent-requires
     enum-told
     enum-told-2
     returns
-    record-lengths-requires
+    wiring-rows-requires
     enum-told-3
     enum-told-4
     returns-2
-    record-bits-requires
-    enum-told-5
-    enum-told-6
-    returns-3
-    wiring-requires
-    returns-4)
+    result-requires
+    returns-3)

@@ -1,22 +1,10 @@
-use mathlib.Core.Path.{_≡_, ap, _∙_}
-use Rattle.instance.specs.declared.Sizes.{Sizes}
-use Rattle.instance.specs.Table.{keyBits}
-use Rattle.answer.specs.Judges.{lengthAnswer}
 use Rattle.answer.proofs.Rows.{stop, go}
 use borrow.Author.Needs.{needs}
 use Rattle.judging.proofs.key_lengths.Statement.{statement}
 use Rattle.judging.proofs.key_lengths.Tie as tie
 
--- the key is judged by the table's size
-key-is : (c : tie.After-exact) →
-    let a = c .before .before .args in c .exact .result ≡ lengthAnswer 1 (a .key) (keyBits (a .instance))
-key-is c = c .exact .ensures ∙ ap (λ (s : Sizes). lengthAnswer 1 (c .before .before .args .key) (s .key)) (c .before .sizes-of .ensures)
-
-sizes-of-requires : tie.Need-sizes-of-requires
-sizes-of-requires c κs = search needs
-
-exact-requires : tie.Need-exact-requires
-exact-requires c κs = search needs
+key-length-requires : tie.Need-key-length-requires
+key-length-requires c κs = search needs
 
 enum-told : tie.Need-enum-told
 enum-told c = search needs
@@ -25,22 +13,14 @@ enum-told-2 : tie.Need-enum-told-2
 enum-told-2 c = search needs
 
 returns : tie.Need-returns
-returns c = stop _ (key-is (c .before .before)) (c .enum-told2 .given .1)
+returns c = stop _ (c .before .before .key-length .ensures) (c .enum-told2 .given .1)
 
 wiring-lengths-requires : tie.Need-wiring-lengths-requires
 wiring-lengths-requires c κs = search needs
 
 returns-2 : tie.Need-returns-2
-returns-2 c = go (key-is (c .before .before .before)) (c .before .enum-told .given .1) (c .wiring-lengths .ensures)
+returns-2 c = go (c .before .before .before .key-length .ensures) (c .before .enum-told .given .1) (c .wiring-lengths .ensures)
 
 pub key-lengths-spec : {M : Type 1} → statement M
 key-lengths-spec =
-    tie.close
-    (tie.spec
-    sizes-of-requires
-    exact-requires
-    enum-told
-    enum-told-2
-    returns
-    wiring-lengths-requires
-    returns-2)
+    tie.close (tie.spec key-length-requires enum-told enum-told-2 returns wiring-lengths-requires returns-2)

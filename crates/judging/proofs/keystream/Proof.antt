@@ -51,17 +51,40 @@ returns-3 c =
     go (n .numbers .ensures) (l .before .enum-told .given .1)
     (go (l .key-lengths .ensures) (b .before .enum-told3 .given .1) (stop _ (b .key-bits .ensures) (c .enum-told6 .given .1)))
 
-wiring-requires : tie.Need-wiring-requires
-wiring-requires c κs = search needs
+wiring-rows-requires : tie.Need-wiring-rows-requires
+wiring-rows-requires c κs = search needs
+
+enum-told-7 : tie.Need-enum-told-7
+enum-told-7 c = search needs
+
+enum-told-8 : tie.Need-enum-told-8
+enum-told-8 c = search needs
 
 returns-4 : tie.Need-returns-4
 unfolding keystreamAnswer
 returns-4 c =
-    let b = c .before .before .before in
+    let w = c .before .before in
+    let b = w .before .before .before in
     let l = b .before .before .before in
     let n = l .before .before .before in
     go (n .numbers .ensures) (l .before .enum-told .given .1)
-    (go (l .key-lengths .ensures) (b .before .enum-told3 .given .1) (go (b .key-bits .ensures) (c .before .enum-told5 .given .1) (c .wiring .ensures)))
+    (go (l .key-lengths .ensures) (b .before .enum-told3 .given .1)
+    (go (b .key-bits .ensures) (w .before .enum-told5 .given .1) (stop _ (w .wiring-rows .ensures) (c .enum-told8 .given .1))))
+
+room-requires : tie.Need-room-requires
+room-requires c κs = search needs
+
+returns-5 : tie.Need-returns-5
+unfolding keystreamAnswer
+returns-5 c =
+    let w = c .before .before .before in
+    let b = w .before .before .before in
+    let l = b .before .before .before in
+    let n = l .before .before .before in
+    go (n .numbers .ensures) (l .before .enum-told .given .1)
+    (go (l .key-lengths .ensures) (b .before .enum-told3 .given .1)
+    (go (b .key-bits .ensures) (w .before .enum-told5 .given .1)
+    (go (w .wiring-rows .ensures) (c .before .enum-told7 .given .1) (c .room .ensures))))
 
 pub keystream-spec : {M : Type 1} → statement M
 keystream-spec =
@@ -79,5 +102,9 @@ keystream-spec =
     enum-told-5
     enum-told-6
     returns-3
-    wiring-requires
-    returns-4)
+    wiring-rows-requires
+    enum-told-7
+    enum-told-8
+    returns-4
+    room-requires
+    returns-5)

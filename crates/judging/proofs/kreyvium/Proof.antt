@@ -1,14 +1,10 @@
-use mathlib.Core.Path.{sym, _∙_}
-use denote.Ref.{now}
-use Rattle.answer.proofs.Rows.{stop, go}
-use Rattle.judging.specs.Judging.{encipherAnswer}
-use Rattle.judging.proofs.Accepted.{no-indices, room-alone}
+use Rattle.judging.proofs.Shared.{lent-stop, kreyvium-room}
 use borrow.Author.Needs.{needs}
 use Rattle.judging.proofs.kreyvium.Statement.{statement}
 use Rattle.judging.proofs.kreyvium.Tie as tie
 
-numbers-requires : tie.Need-numbers-requires
-numbers-requires c κs = search needs
+lent-requires : tie.Need-lent-requires
+lent-requires c κs = search needs
 
 enum-told : tie.Need-enum-told
 enum-told c = search needs
@@ -17,71 +13,15 @@ enum-told-2 : tie.Need-enum-told-2
 enum-told-2 c = search needs
 
 returns : tie.Need-returns
-unfolding encipherAnswer
-returns c = stop _ (c .before .before .numbers .ensures) (c .enum-told2 .given .1)
+returns c = lent-stop _ _ _ _ _ _ _ (c .before .before .lent .ensures) (c .enum-told2 .given .1)
 
-record-lengths-requires : tie.Need-record-lengths-requires
-record-lengths-requires c κs = search needs
-
-enum-told-3 : tie.Need-enum-told-3
-enum-told-3 c = search needs
-
-enum-told-4 : tie.Need-enum-told-4
-enum-told-4 c = search needs
+result-requires : tie.Need-result-requires
+result-requires c κs = search needs
 
 returns-2 : tie.Need-returns-2
-unfolding encipherAnswer
 returns-2 c =
-    let l = c .before .before in
-    let n = l .before .before .before in
-    go (n .numbers .ensures) (l .before .enum-told .given .1) (stop _ (l .record-lengths .ensures) (c .enum-told4 .given .1))
-
-record-bits-requires : tie.Need-record-bits-requires
-record-bits-requires c κs = search needs
-
-enum-told-5 : tie.Need-enum-told-5
-enum-told-5 c = search needs
-
-enum-told-6 : tie.Need-enum-told-6
-enum-told-6 c = search needs
-
-returns-3 : tie.Need-returns-3
-unfolding encipherAnswer
-returns-3 c =
-    let b = c .before .before in
-    let l = b .before .before .before in
-    let n = l .before .before .before in
-    go (n .numbers .ensures) (l .before .enum-told .given .1)
-    (go (l .record-lengths .ensures) (b .before .enum-told3 .given .1) (stop _ (b .record-bits .ensures) (c .enum-told6 .given .1)))
-
-room-requires : tie.Need-room-requires
-room-requires c κs = search needs
-
-returns-4 : tie.Need-returns-4
-unfolding encipherAnswer
-returns-4 c =
-    let b = c .before .before .before in
-    let l = b .before .before .before in
-    let n = l .before .before .before in
-    let a = n .before .before .before .before .before .args in
-    go (n .numbers .ensures) (l .before .enum-told .given .1)
-    (go (l .record-lengths .ensures) (b .before .enum-told3 .given .1) (go (b .record-bits .ensures) (c .before .enum-told5 .given .1) (c .room .ensures ∙ room-alone _ _ (now (a .indices)) (now (a .iv)) (no-indices _ _ _ _ _ (sym (l .record-lengths .ensures) ∙ b .before .enum-told3 .given .1)))))
+    kreyvium-room _ _ _ _ _ _ (c .before .before .before .lent .ensures) (c .before .enum-told .given .1) (c .result .ensures)
 
 pub kreyvium-spec : {M : Type 1} → statement M
 kreyvium-spec =
-    tie.close
-    (tie.spec
-    numbers-requires
-    enum-told
-    enum-told-2
-    returns
-    record-lengths-requires
-    enum-told-3
-    enum-told-4
-    returns-2
-    record-bits-requires
-    enum-told-5
-    enum-told-6
-    returns-3
-    room-requires
-    returns-4)
+    tie.close (tie.spec lent-requires enum-told enum-told-2 returns result-requires returns-2)

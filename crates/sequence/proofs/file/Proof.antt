@@ -19,13 +19,13 @@ enum-told-2 c = search needs
 returns : tie.Need-returns
 returns c = file-stop _ _ _ refl (c .before .before .whole-frames .ensures) (c .enum-told2 .given .1)
 
-bad-frame-requires : tie.Need-bad-frame-requires
-bad-frame-requires c κs = search needs
+refused-requires : tie.Need-refused-requires
+refused-requires c κs = search needs
 
 returns-2 : tie.Need-returns-2
 returns-2 c =
     let t = c .before .before in
-    c .bad-frame .ensures ∙ file-cut _ _ _ refl (t .before .before .whole-frames .ensures) (t .enum-told .given .1) (c .before .if1 .taken)
+    c .refused .ensures ∙ file-cut _ _ _ refl (t .before .before .whole-frames .ensures) (t .enum-told .given .1) (c .before .if1 .taken)
 
 returns-3 : tie.Need-returns-3
 returns-3 c = file-end _ _ _ refl (c .before .before .before .whole-frames .ensures) (c .before .enum-told .given .1) (c .if1 .left)
@@ -39,6 +39,6 @@ file-spec =
     enum-told
     enum-told-2
     returns
-    bad-frame-requires
+    refused-requires
     returns-2
     returns-3)

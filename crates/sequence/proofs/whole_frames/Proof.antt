@@ -15,15 +15,15 @@ returns c =
 marked-requires : tie.Need-marked-requires
 marked-requires c κs = search needs
 
-bad-frame-requires : tie.Need-bad-frame-requires
-bad-frame-requires c κs = search needs
+refused-requires : tie.Need-refused-requires
+refused-requires c κs = search needs
 
 returns-2 : tie.Need-returns-2
 returns-2 c =
     let m = c .before .before in
     let s = m .before .before .before in
     let a = s .args in
-    c .bad-frame .ensures
+    c .refused .ensures
     ∙ frames-stop (a .list) (now (a .s)) 0 (a .whole) refl (s .pre .0) (each-none _) (omega arith) (first-bad _ _ (m .marked .ensures) (c .before .if2 .taken)) refl
 
 later-frames-requires : tie.Need-later-frames-requires
@@ -37,4 +37,4 @@ returns-3 c = search needs
 pub whole-frames-spec : {M : Type 1} → statement M
 whole-frames-spec =
     tie.close
-    (tie.spec returns marked-requires bad-frame-requires returns-2 later-frames-requires returns-3)
+    (tie.spec returns marked-requires refused-requires returns-2 later-frames-requires returns-3)

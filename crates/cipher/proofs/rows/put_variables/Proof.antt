@@ -2,6 +2,7 @@ use Prim.Native.Nat.{_-_, _≤_}
 use mathlib.Core.Path.{_≡_, refl, ap, _∙_}
 use native.Mathlib.Omega.{arith}
 use lib.ListN.{length, take}
+use Rattle.instance.specs.Keys.{keyIn}
 use Rattle.filter.specs.Filter.{var, tab}
 use Rattle.cipher.proofs.Variables.{eight-more}
 use borrow.Author.Needs.{needs}
@@ -9,10 +10,14 @@ use Rattle.cipher.proofs.rows.put_variables.Statement.{statement}
 use Rattle.cipher.proofs.rows.put_variables.Tie as tie
 
 abbrev Inv-loop : tie.InvT-loop
-Inv-loop key row w x₀ i₀ x i = (i ≤ length x₀) × (length x ≡ length x₀) × (take i x ≡ tab (var key row w) i)
+Inv-loop instance key row w x₀ i₀ x i = (i ≤ length x₀) × (length x ≡ length x₀) × (take i x ≡ tab (var (keyIn instance key) row w) i)
 
 abbrev μ-loop : tie.MeasureT-loop
-μ-loop key row w x₀ i₀ x i = length x₀ - i
+μ-loop instance key row w x₀ i₀ x i = length x₀ - i
+
+-- the call
+abbrev start : tie.At-loop Inv-loop μ-loop → tie.Start Inv-loop μ-loop
+start c = c .before .before .before .before .before
 
 loop-holds : tie.Need-loop-holds Inv-loop μ-loop
 unfolding tab
@@ -23,8 +28,8 @@ sub-loop c = search needs
 
 eight-variables-requires : tie.Need-eight-variables-requires Inv-loop μ-loop
 eight-variables-requires c κs =
-    let s = c .before .before .before .before .before .before in
-    (omega arith, omega arith, λ j h. s .pre .2 j (omega arith))
+    let s = start (c .before) in
+    (omega arith, omega arith, (λ j h. s .pre .2 j (omega arith)), s .pre .3)
 
 put-eight-variables-requires : tie.Need-put-eight-variables-requires Inv-loop μ-loop
 put-eight-variables-requires c κs = search needs
@@ -39,14 +44,14 @@ loop-again : tie.Need-loop-again Inv-loop μ-loop
 loop-again c =
     let eight = c .before .before .before .before in
     let l = eight .before .before .loop in
-    let a = eight .before .before .before .before .before .before .before .args in
-    (search needs, search needs, eight-more (var (a .key .now) (a .row .now) (a .w .now)) (eight .eight-variables .result) (l .x) _ (l .i) (eight .eight-variables .ensures) (l .inv .2) (c .before .before .put-eight-variables .ensures))
+    let a = start (eight .before .before) .args in
+    (search needs, search needs, eight-more (var (keyIn (a .instance) (a .key .now)) (a .row .now) (a .w .now)) (eight .eight-variables .result) (l .x) _ (l .i) (eight .eight-variables .ensures) (l .inv .2) (c .before .before .put-eight-variables .ensures))
 
 put-variables-from-requires : tie.Need-put-variables-from-requires Inv-loop μ-loop
 put-variables-from-requires c κs =
     let l = c .before .before .loop in
-    let s = c .before .before .before .before .before .before .before in
-    (omega arith, l .inv .2, omega arith, omega arith, λ j h. s .pre .2 j (omega arith))
+    let s = start (c .before .before) in
+    (omega arith, l .inv .2, omega arith, omega arith, (λ j h. s .pre .2 j (omega arith)), s .pre .3)
 
 same-length : tie.Need-same-length Inv-loop μ-loop
 same-length c = search needs
@@ -55,8 +60,8 @@ returns : tie.Need-returns Inv-loop μ-loop
 returns c =
     let from = c .before .before in
     let l = from .before .before .before .loop in
-    let a = from .before .before .before .before .before .before .before .before .args in
-    from .put-variables-from .ensures ∙ ap (tab (var (a .key .now) (a .row .now) (a .w .now))) (l .inv .1)
+    let a = start (from .before .before .before) .args in
+    from .put-variables-from .ensures ∙ ap (tab (var (keyIn (a .instance) (a .key .now)) (a .row .now) (a .w .now))) (l .inv .1)
 
 pub put-variables-spec : {M : Type 1} → statement M
 put-variables-spec =

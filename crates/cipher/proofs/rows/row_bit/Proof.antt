@@ -14,7 +14,11 @@ same-length : tie.Need-same-length
 same-length c = search needs
 
 returns : tie.Need-returns
-returns c = c .filter .ensures ∙ ap (filterOf (c .before .before .before .before .before .before .before .before .before .before .args .instance)) (c .before .before .before .before .put-variables .ensures)
+returns c =
+    let p = c .before .before .before .before in
+    let s = p .before .before in
+    let a = s .before .before .before .before .args in
+    c .filter .ensures ∙ ap (filterOf (a .instance)) (p .put-variables .ensures)
 
 pub row-bit-spec : {M : Type 1} → statement M
 row-bit-spec = tie.close (tie.spec put-variables-requires filter-requires same-length returns)

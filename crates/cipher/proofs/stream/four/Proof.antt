@@ -1,17 +1,8 @@
-use Prim.Native.Nat.{ℕ, _+_, _*_}
-use mathlib.Core.Path.{_≡_, refl}
-use mathlib.Core.List.{List}
-use lib.ListN.{getD}
 use denote.Ref.{now}
-use Rattle.cipher.specs.Apart.{apart}
+use Rattle.cipher.proofs.Halves.{apart-sum}
 use borrow.Author.Needs.{needs}
 use Rattle.cipher.proofs.stream.four.Statement.{statement}
 use Rattle.cipher.proofs.stream.four.Tie as tie
-
-sum : (s : List ℕ) (at a b d e : ℕ) → a ≡ getD s at 0 → b ≡ getD s (at + 1) 0 → d ≡ getD s (at + 2) 0 → e ≡ getD s (at + 3) 0
-    → a + b * 256 + d * 65536 + e * 16777216 ≡ apart s at
-unfolding apart
-sum s at a b d e f g h i = rw (f, g, h, i) refl
 
 one-requires : tie.Need-one-requires
 one-requires c κs = search needs
@@ -57,7 +48,7 @@ returns c =
     let d = c .before in
     let b = d .before in
     let a = b .before in
-    (sum (now (a .before .before .args .s)) (a .before .before .args .at) _ _ _ _ (a .one .ensures .0) (b .one2 .ensures .0) (d .one3 .ensures .0) (c .one4 .ensures .0), search needs)
+    (apart-sum (now (a .before .before .args .s)) (a .before .before .args .at) _ _ _ _ (a .one .ensures .0) (b .one2 .ensures .0) (d .one3 .ensures .0) (c .one4 .ensures .0), search needs)
 
 pub four-spec : {M : Type 1} → statement M
 four-spec =

@@ -5,17 +5,17 @@ use borrow.Author.Needs.{needs}
 use Rattle.cipher.proofs.stream.put.Statement.{statement}
 use Rattle.cipher.proofs.stream.put.Tie as tie
 
+key-word-requires : tie.Need-key-word-requires
+key-word-requires c κs = search needs
+
+key-word-requires-2 : tie.Need-key-word-requires-2
+key-word-requires-2 c κs = search needs
+
 word-requires : tie.Need-word-requires
 word-requires c κs = search needs
 
 word-requires-2 : tie.Need-word-requires-2
 word-requires-2 c κs = search needs
-
-word-requires-3 : tie.Need-word-requires-3
-word-requires-3 c κs = search needs
-
-word-requires-4 : tie.Need-word-requires-4
-word-requires-4 c κs = search needs
 
 stream64-requires : tie.Need-stream64-requires
 stream64-requires c κs = search needs
@@ -38,16 +38,16 @@ returns c =
     let p = s .pre in
     b .put-front .ensures
     ∙ t .stream64 .ensures _ (p .0)
-    ∙ stream-words (now (s .args .key)) (now (s .args .iv)) (p .1) (p .2) (p .3) (p .4) _ _ _ _ _ (w1 .word .ensures) (w2 .word2 .ensures) (w3 .word3 .ensures) (w4 .word4 .ensures)
+    ∙ stream-words (now (s .args .key)) (now (s .args .iv)) (p .1) (p .2) (p .3) _ _ _ _ _ (w1 .key-word .ensures) (w2 .key-word2 .ensures) (w3 .word .ensures) (w4 .word2 .ensures)
 
 pub put-spec : {M : Type 1} → statement M
 put-spec =
     tie.close
     (tie.spec
+    key-word-requires
+    key-word-requires-2
     word-requires
     word-requires-2
-    word-requires-3
-    word-requires-4
     stream64-requires
     put-front-requires
     same-length

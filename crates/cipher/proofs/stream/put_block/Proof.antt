@@ -17,8 +17,10 @@ same-length c = search needs
 
 returns : tie.Need-returns
 returns c =
-    let s = c .before .before .before .before .before .before .before .before .before in
-    c .before .before .put-rest .ensures ∙ ap (λ (n : ℕ). tops n (s .args .z)) (search needs)
+    let p = c .before .before in
+    let e = p .before .before in
+    let s = e .before .before .before .before .before in
+    p .put-rest .ensures ∙ ap (λ (n : ℕ). tops n (s .args .z)) (search needs)
 
 pub put-block-spec : {M : Type 1} → statement M
 put-block-spec = tie.close (tie.spec put-eights-requires put-rest-requires same-length returns)

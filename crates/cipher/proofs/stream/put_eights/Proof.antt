@@ -2,11 +2,12 @@ use Prim.Native.Nat.{ℕ, _+_, _-_, _/_, _^_, _≤_}
 use mathlib.Core.Path.{_≡_, ap, _∙_}
 use mathlib.Core.List.{List}
 use lib.ListN.{length}
+use lib.Seq.{sets}
 use denote.Ref.{now}
 use Rattle.answer.specs.Fronts.{over}
 use Rattle.filter.specs.Filter.{tab}
 use Rattle.filter.proofs.Tab.{tab-none}
-use Rattle.cipher.specs.Apart.{fourSet}
+use Rattle.cipher.specs.Inner.{lowFour}
 use Rattle.cipher.proofs.Block.{blockBit, tab-tops}
 use Rattle.cipher.proofs.Spread.{block-eight}
 use borrow.Author.Needs.{needs}
@@ -57,7 +58,7 @@ loop-again c =
     let l = sp .before .before .loop in
     let s = sp .before .before .before .before in
     let i = l .i in
-    (two .put-four2 .ensures ∙ ap (fourSet (sp .spread .result / 2 ^ 32) (i + 4)) (one .put-four .ensures) ∙ block-eight (s .args .z) i (sp .spread .result) (now (s .args .out)) (l .out) (s .pre) (search needs) (sp .spread .ensures) (l .inv .0), search needs, search needs)
+    (two .put-four2 .ensures ∙ ap (λ (t : List ℕ). sets t (i + 4) (lowFour (sp .spread .result / 2 ^ 32))) (one .put-four .ensures) ∙ block-eight (s .args .z) i (sp .spread .result) (now (s .args .out)) (l .out) (search needs) (search needs) (sp .spread .ensures) (l .inv .0), search needs, search needs)
 
 same-length : tie.Need-same-length Inv-loop μ-loop
 same-length c = search needs
