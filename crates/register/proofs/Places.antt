@@ -9,8 +9,7 @@ use Rattle.netlist.specs.Glue.{upFrom}
 use Rattle.netlist.proofs.Sim.{split}
 use Rattle.netlist.proofs.Glued.{getD-map-lt, upFrom-at, upFrom-length}
 use Rattle.kreyvium.specs.Kreyvium.{push, k0, v0, moved, loaded}
-use Rattle.rounds.specs.Circuit.{bitOf}
-use Rattle.rounds.specs.Gates.{startWires, moveWires}
+use Rattle.rounds.specs.Gates.{bitOf, startWires, moveWires}
 use Rattle.rounds.proofs.Lists.{length-push, Sized}
 use Rattle.rounds.proofs.Net.{start-sized}
 use Rattle.register.specs.declared.wires.Five.{Five}

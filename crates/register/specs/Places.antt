@@ -8,8 +8,7 @@ use Rattle.netlist.specs.declared.gate.Gate.{Gate}
 use Rattle.netlist.specs.declared.gate.Gate.the-variants.{Xor, And}
 use Rattle.kreyvium.specs.Kreyvium.{Registers, sA, sB, sC, k0, v0}
 use Rattle.answer.specs.Choose.{choose}
-use Rattle.rounds.specs.Circuit.{bitOf}
-use Rattle.rounds.specs.Gates.{startWires, moveWires}
+use Rattle.rounds.specs.Gates.{bitOf, startWires, moveWires}
 use Rattle.register.specs.declared.wires.Five.{Five}
 use Rattle.register.specs.declared.wires.Taps.{Taps}
 
