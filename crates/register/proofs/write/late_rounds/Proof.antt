@@ -4,7 +4,7 @@ use native.Mathlib.Omega.{arith}
 use lib.ListN.{length}
 use Rattle.netlist.specs.Put.{putGates}
 use Rattle.netlist.proofs.Puts.{put-length}
-use Rattle.register.specs.Rounds.{plainAt, plainRest}
+use Rattle.register.specs.InnerRounds.{plainAt, plainRest}
 use Rattle.register.proofs.Rounds.{plain-turn, late-end}
 use Rattle.register.proofs.write.late_rounds.Statement.{statement}
 use Rattle.register.proofs.write.late_rounds.Tie as tie

@@ -4,7 +4,7 @@ use native.Mathlib.Omega.{arith}
 use lib.ListN.{length}
 use Rattle.netlist.specs.Put.{putGates}
 use Rattle.netlist.proofs.Puts.{put-length}
-use Rattle.register.specs.Rounds.{outputAt, outputRest}
+use Rattle.register.specs.InnerRounds.{outputAt, outputRest}
 use Rattle.register.proofs.Rounds.{output-turn, output-end}
 use Rattle.register.proofs.write.output_rounds.Statement.{statement}
 use Rattle.register.proofs.write.output_rounds.Tie as tie

@@ -1,4 +1,5 @@
--- Where the wires of Kreyvium's registers stand, in closed form. Only promises of private functions cite this.
+-- Inner: what contracts of this crate's private functions cite, and no promise that a caller reads. Where the wires of Kreyvium's
+-- registers stand, in closed form.
 use mathlib.Core.Path.{_≡_}
 use mathlib.Core.List.{List, [], _∷_, _++_}
 use Prim.Native.Nat.{ℕ, zero, suc, _+_, _-_, _*_, _≤_, _<_}
