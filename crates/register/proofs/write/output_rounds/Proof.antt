@@ -28,7 +28,10 @@ late-taps-requires c κs =
     (record { iv = p .1; m = p .0; n = omega (arith, p .0) }, omega arith)
 
 output-round-requires : tie.Need-output-round-requires Inv-loop μ-loop
-output-round-requires c κs = (c .before .before .before .before .before .before .pre .0, omega arith, omega arith)
+output-round-requires c κs =
+    let in-loop = c .before .before in
+    let start = in-loop .before .before .before .before in
+    (start .pre .0, omega arith, omega arith)
 
 add-k : tie.Need-add-k Inv-loop μ-loop
 add-k c = omega arith
