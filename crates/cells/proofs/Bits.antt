@@ -13,7 +13,7 @@ use Rattle.answer.specs.Choose.{choose}
 use Rattle.netlist.specs.Net.{valAlg}
 use Rattle.netlist.proofs.Bits.{Bits}
 use Rattle.filter.specs.Filter.{ones}
-use Rattle.cells.specs.Loop.{pos, down}
+use Rattle.cells.specs.InnerLoop.{pos, down}
 use Rattle.cells.proofs.Wiring.{muxes, muxesFrom, lastFrom, top, topCell, newRow, newSum, endRow, endSum, firstRow, cells-left, enough-next}
 
 abbrev bsum : ℕ → ℕ → ℕ

@@ -8,7 +8,7 @@ use lib.ListN.{length, replicate, length-append}
 use Rattle.netlist.specs.declared.gate.Gate.{Gate}
 use Rattle.netlist.specs.Net.{depAlg, mulsOf}
 use Rattle.netlist.proofs.Glued.{muls-append}
-use Rattle.cells.specs.Loop.{pos, down, tail, lowGates, sumGates, levels, firstGates, firstWire, cells}
+use Rattle.cells.specs.InnerLoop.{pos, down, tail, lowGates, sumGates, levels, firstGates, firstWire, cells}
 use Rattle.cells.proofs.Same.{length-low, length-tail, length-sum, length-first}
 use Rattle.cells.proofs.Wiring.{muxesFrom, lastFrom, newRow, newSum, top, topCell, endSum, firstRow, cells-left, enough-next, pos-le}
 

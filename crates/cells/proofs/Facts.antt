@@ -19,7 +19,7 @@ use Rattle.netlist.proofs.Sim.{run-length, split}
 use Rattle.filter.specs.Filter.{ones, threshold}
 use Rattle.filter.proofs.Sums.{ones-le}
 use Rattle.cells.specs.Cells.{wiresTo, thresholdNet, oneHotNet}
-use Rattle.cells.specs.Loop.{pos, cells}
+use Rattle.cells.specs.InnerLoop.{pos, cells}
 use Rattle.cells.proofs.Bits.{same, hots, hots-snoc, weight, hot-first, end-row, weight-ones, same-test}
 use Rattle.cells.proofs.Costs.{cells-length, hot-mults}
 use Rattle.cells.proofs.Placed.{cells-wired, length-cells}

@@ -6,7 +6,7 @@ use native.Mathlib.Omega.{arith}
 use lib.ListN.{length, length-append}
 use Rattle.netlist.specs.Net.{Wired, Below}
 use Rattle.netlist.proofs.Glued.{wired-append}
-use Rattle.cells.specs.Loop.{pos, down, tail, lowGates, sumGates, levels, firstGates, firstWire, cells}
+use Rattle.cells.specs.InnerLoop.{pos, down, tail, lowGates, sumGates, levels, firstGates, firstWire, cells}
 use Rattle.cells.proofs.Same.{length-low, length-tail, length-sum, length-first}
 use Rattle.cells.proofs.Wiring.{below-more, pos-le, pos-down, cells-left, enough-next, first-enough, first-wire-in}
 

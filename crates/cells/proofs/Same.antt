@@ -1,4 +1,4 @@
--- The gates of specs/Cells.antt are those of specs/Loop.antt, level by level.
+-- The gates of specs/Cells.antt are those of specs/InnerLoop.antt, level by level.
 use Prim.Native.Nat.{ℕ, zero, suc, _+_, _-_, _*_, _≤_, _<_, min}
 use mathlib.Core.Path.{_≡_, refl, sym, ap, ap₂, _∙_}
 use mathlib.Core.Bool.{Bool, true, false}
@@ -16,7 +16,7 @@ use Rattle.netlist.proofs.Glued.{upFrom-length, net-eq}
 use Rattle.cells.specs.Cells as C
 use Rattle.cells.specs.Cells.{Kept, Level, cellGates, rowGates, levelGates, levelAfter, levelsGates, levelsEnd, allGates, lastLevel}
 use Rattle.cells.proofs.Samples.{one-of-one}
-use Rattle.cells.specs.Loop.{pos, down, tail, lowGates, sumGates, levels, firstGates, firstWire, cells}
+use Rattle.cells.specs.InnerLoop.{pos, down, tail, lowGates, sumGates, levels, firstGates, firstWire, cells}
 
 -- the cells over the row before it, whose cells j, j + 1, .. j + m stand at wires a, s, s + 1, ..
 pub record Rows (b : ℕ → ℕ) (j a s m : ℕ) : Type 0 where

@@ -10,7 +10,7 @@ use Rattle.netlist.proofs.Bits.{Bits}
 use Rattle.netlist.proofs.Sim.{run-length}
 use Rattle.filter.specs.Filter.{ones, threshold}
 use Rattle.cells.specs.Cells.{thresholdPart}
-use Rattle.cells.specs.Loop.{pos, down, cells}
+use Rattle.cells.specs.InnerLoop.{pos, down, cells}
 use Rattle.cells.proofs.Same.{threshold-part-loop}
 use Rattle.cells.proofs.Wiring.{endSum, firstRow, lastFrom, lastFrom-append, lowNot, trace, trace-last′, cells-run}
 use Rattle.cells.proofs.Bits.{ge, weight-ones, ge-test, sum-ge-weight}

@@ -9,7 +9,7 @@ use Rattle.netlist.specs.declared.gate.Gate.{Gate}
 use Rattle.netlist.specs.Net.{Alg, at, run, Below}
 use Rattle.netlist.proofs.Sim.{run-append}
 use Rattle.netlist.proofs.Glued.{map-agree}
-use Rattle.cells.specs.Loop.{pos, down, tail, lowGates, sumGates, levels, firstGates, firstWire, cells}
+use Rattle.cells.specs.InnerLoop.{pos, down, tail, lowGates, sumGates, levels, firstGates, firstWire, cells}
 
 -- cells enough for a level leave cells enough for the next
 pub cells-left : (k l h m : ℕ) → suc k ≤ m + l + max h 1 → 0 < k → 1 ≤ pos l + m + pos (down h)

@@ -1,2 +1,2 @@
 pub mod Cells
-pub mod Loop
+pub mod InnerLoop

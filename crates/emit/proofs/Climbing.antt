@@ -6,7 +6,7 @@ use native.Mathlib.Omega.{arith}
 use native.Mathlib.Numerals.{add-one}
 use lib.ListN.{length, getD, drop, length-append, drop-of-length-le}
 use lib.Seq.{drop-cons}
-use Rattle.cells.specs.Loop.{pos, down, tail, lowGates, sumGates, cells, firstGates, firstWire}
+use Rattle.cells.specs.InnerLoop.{pos, down, tail, lowGates, sumGates, cells, firstGates, firstWire}
 use Rattle.emit.specs.declared.levels.Level.{Level}
 use Rattle.netlist.specs.Put.{putGates}
 use Rattle.netlist.proofs.Puts.{put-append, put-length, more}

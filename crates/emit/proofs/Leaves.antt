@@ -7,7 +7,7 @@ use lib.ListN.{length}
 use lib.Seq.{sets}
 use Rattle.netlist.specs.declared.gate.Gate.the-variants.{Mux, And}
 use Rattle.netlist.specs.Put.{putGates}
-use Rattle.cells.specs.Loop.{pos, down, tail, lowGates, sumGates, firstGates, firstWire}
+use Rattle.cells.specs.InnerLoop.{pos, down, tail, lowGates, sumGates, firstGates, firstWire}
 
 pub pos-le : (n : ℕ) → pos n ≤ 1
 pos-le zero = omega arith

@@ -14,7 +14,8 @@ use Rattle.instance.specs.Table.{rowBits, sizesOf}
 use Rattle.filter.specs.Instances.{degreesOf}
 use Rattle.filter.proofs.Published.{total}
 use Rattle.cells.specs.Cells.{thresholdPart}
-use Rattle.wiring.specs.Exp.{emit, chain, monomials, fits}
+use Rattle.wiring.specs.Exp.{emit, chain, monomials}
+use Rattle.wiring.specs.Inner.{fits}
 use Rattle.wiring.specs.Costs.{costOf}
 use Rattle.wiring.specs.Decipher.{filterExp}
 use Rattle.wiring.proofs.Exps.{All, emit-size, threshold-count}

@@ -7,7 +7,7 @@ use native.Mathlib.Omega.{arith}
 use lib.ListN.{length}
 use Rattle.instance.specs.Table.{keyBits, rowBits, sizesOf}
 use Rattle.filter.specs.Instances.{degreesOf}
-use Rattle.wiring.specs.Exp.{fits}
+use Rattle.wiring.specs.Inner.{fits}
 use Rattle.wiring.specs.Costs.{costOf}
 use Rattle.wiring.proofs.Table.{known-chain}
 

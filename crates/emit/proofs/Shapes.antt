@@ -28,7 +28,7 @@ use Rattle.netlist.proofs.Glued.{upFrom-length}
 use Rattle.answer.specs.Judges.{roomAnswer}
 use Rattle.answer.proofs.Judges.{room-done}
 use Rattle.cells.specs.Cells.{oneHotNet, thresholdPart, thresholdNet, allGates, lastLevel, firstLevel, firstGates, levelsGates, levelsEnd}
-use Rattle.cells.specs.Loop.{cells}
+use Rattle.cells.specs.InnerLoop.{cells}
 use Rattle.cells.proofs.Same.{threshold-part-loop, threshold-net-loop, threshold-net-zero, one-hot-loop}
 use Rattle.netlist.specs.Emitted.{Emitted}
 use Rattle.netlist.specs.Put.{putGates, Wrote}

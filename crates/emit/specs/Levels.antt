@@ -1,9 +1,9 @@
 -- A run of levels as the code's `Level` has it: the gates of one level, and where the next begins. All of it is
--- crates/cells/specs/Loop.antt with the numbers of a row in one value.
+-- crates/cells/specs/InnerLoop.antt with the numbers of a row in one value.
 use mathlib.Core.List.{List, _++_}
 use Prim.Native.Nat.{ℕ, _+_, _-_, _*_, _≤_, _<_}
 use Rattle.netlist.specs.declared.gate.Gate.{Gate}
-use Rattle.cells.specs.Loop.{pos, down, tail, lowGates, sumGates, levels, firstWire}
+use Rattle.cells.specs.InnerLoop.{pos, down, tail, lowGates, sumGates, levels, firstWire}
 use Rattle.emit.specs.declared.levels.Level.{Level}
 
 -- the gates of a level over input wire x

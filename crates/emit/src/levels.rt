@@ -7,7 +7,7 @@ ghost use lib.ListN.{length, getD};
 ghost use Rattle.netlist.specs.Glue.{upFrom};
 ghost use Rattle.netlist.specs.Put.{putGates, Wrote};
 ghost use Rattle.cells.specs.Cells.{thresholdPart};
-ghost use Rattle.cells.specs.Loop.{pos, down, tail, lowGates, sumGates, firstGates, firstWire, cells};
+ghost use Rattle.cells.specs.InnerLoop.{pos, down, tail, lowGates, sumGates, firstGates, firstWire, cells};
 ghost use Rattle.emit.specs.Levels.{levelGates, afterLevel, firstLevel, LevelFits, StepFits};
 
 // Where a run of levels stands. Cell 0 is kept at `lows` more levels. The last AND of a level is a cell at

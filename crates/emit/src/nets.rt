@@ -12,7 +12,7 @@ ghost use lib.ListN.{length};
 ghost use lib.Seq.{sets};
 ghost use Rattle.netlist.specs.Glue.{upFrom};
 ghost use Rattle.cells.specs.Cells.{oneHotNet, thresholdNet};
-ghost use Rattle.cells.specs.Loop.{cells};
+ghost use Rattle.cells.specs.InnerLoop.{cells};
 ghost use Rattle.netlist.specs.Emitted.{Emitted};
 ghost use Rattle.netlist.specs.Put.{putGates};
 ghost use Rattle.emit.specs.Emit.{oneHotAnswer, thresholdAnswer, noThreshold};

@@ -4,8 +4,8 @@ use mathlib.Core.List.{List}
 use Prim.Native.Nat.{ℕ, zero, suc, _+_, _-_, _≤_, _<_}
 use borrow.Author.Tests.{lt-ltb, le-ltb}
 use lib.ListN.{getD}
-use Rattle.rounds.specs.Circuit.{bitOf}
-use Rattle.register.specs.Places.{tailAt, constWire, wireA, wireB, startC, wireC}
+use Rattle.rounds.specs.Gates.{bitOf}
+use Rattle.register.specs.InnerPlaces.{tailAt, constWire, wireA, wireB, startC, wireC}
 
 const-bit : (z o b : ℕ) → (b ≡ 0 → ⊥) → o ≡ bitOf z o b
 unfolding bitOf

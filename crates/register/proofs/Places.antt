@@ -9,13 +9,12 @@ use Rattle.netlist.specs.Glue.{upFrom}
 use Rattle.netlist.proofs.Sim.{split}
 use Rattle.netlist.proofs.Glued.{getD-map-lt, upFrom-at, upFrom-length}
 use Rattle.kreyvium.specs.Kreyvium.{push, k0, v0, moved, loaded}
-use Rattle.rounds.specs.Circuit.{bitOf}
-use Rattle.rounds.specs.Gates.{startWires, moveWires}
+use Rattle.rounds.specs.Gates.{bitOf, startWires, moveWires}
 use Rattle.rounds.proofs.Lists.{length-push, Sized}
 use Rattle.rounds.proofs.Net.{start-sized}
 use Rattle.register.specs.declared.wires.Five.{Five}
 use Rattle.register.specs.declared.wires.Taps.{Taps}
-use Rattle.register.specs.Places.{tailAt, registersAt, constWire, wireA, wireB, startC, wireC, fiveA, fiveB, fiveC, tapsOf, placesA, placesB, placesC, agoOf}
+use Rattle.register.specs.InnerPlaces.{tailAt, registersAt, constWire, wireA, wireB, startC, wireC, fiveA, fiveB, fiveC, tapsOf, placesA, placesB, placesC, agoOf}
 use Rattle.register.proofs.Cases.{a-new, a-old, b-new, b-old, c-new, c-old, c-iv, c-ones, c-zero}
 
 getD-push : (x : ℕ) (l : List ℕ) (j : ℕ) → j < length l → getD (push x l) j 0 ≡ getD (x ∷ l) j 0

@@ -7,31 +7,34 @@ use lib.Seq.{sets}
 use Rattle.netlist.specs.declared.gate.Gate.{Gate}
 use Rattle.netlist.specs.declared.gate.Gate.the-variants.{Zero, One}
 use Rattle.netlist.specs.Gates.{gateWords}
+use Rattle.netlist.specs.Words.{headerWords, gatePlace}
 use Rattle.netlist.specs.Put.{putGates}
 use Rattle.netlist.proofs.Puts.{put-append, more}
 use Rattle.rounds.specs.Gates.{headGates, outGates, tailGates, gatesFrom, moveWires, startWires, kreyviumGates}
 use Rattle.register.specs.declared.wires.Taps.{Taps}
-use Rattle.register.specs.Places.{tailAt, registersAt, tapsOf, headOf, tailOf}
-use Rattle.register.specs.Rounds.{plainAt, plainWire, plainOf, plainRest, outputAt, outputWire, outputOf, outputRest}
+use Rattle.register.specs.InnerPlaces.{tailAt, registersAt, tapsOf, headOf, tailOf}
+use Rattle.register.specs.InnerRounds.{plainAt, plainWire, plainOf, plainRest, outputAt, outputWire, outputOf, outputRest}
 use Rattle.register.proofs.Few.{two}
 
 -- the code's calls make a round
-pub plain-put : (m n : ℕ) (t : Taps) (out o₁ o₂ : List ℕ)
-    → o₁ ≡ putGates out (plainAt n) (headOf (plainWire m n) t) → o₂ ≡ putGates o₁ (plainAt n + 16) (tailOf (plainWire m n) (plainWire m n + 4) t)
+pub plain-put : (m n : ℕ) (t : Taps) (at : ℕ) (out o₁ o₂ : List ℕ) → at ≡ plainAt n
+    → o₁ ≡ putGates out at (headOf (plainWire m n) t) → o₂ ≡ putGates o₁ (at + 16) (tailOf (plainWire m n) (plainWire m n + 4) t)
     → o₂ ≡ putGates out (plainAt n) (plainOf m n t)
-plain-put m n t out o₁ o₂ p q =
-    more out o₁ o₂ (plainAt n) (plainAt n + 16) (headOf (plainWire m n) t) (tailOf (plainWire m n) (plainWire m n + 4) t) p q refl
+plain-put m n t at out o₁ o₂ e p q =
+    more out o₁ o₂ at (at + 16) (headOf (plainWire m n) t) (tailOf (plainWire m n) (plainWire m n + 4) t) p q refl
+    ∙ ap (λ (i : ℕ). putGates out i (plainOf m n t)) e
 
-pub output-put : (m k : ℕ) (t : Taps) (out o₁ o₂ o₃ : List ℕ)
-    → o₁ ≡ putGates out (outputAt k) (headOf (outputWire m k) t)
-    → o₂ ≡ putGates o₁ (outputAt k + 16) (outGates (outputWire m k) (outputWire m k + 4) (128 + k))
-    → o₃ ≡ putGates o₂ (outputAt k + 28) (tailOf (outputWire m k) (outputWire m k + 7) t)
+pub output-put : (m k : ℕ) (t : Taps) (at : ℕ) (out o₁ o₂ o₃ : List ℕ) → at ≡ outputAt k
+    → o₁ ≡ putGates out at (headOf (outputWire m k) t)
+    → o₂ ≡ putGates o₁ (at + 16) (outGates (outputWire m k) (outputWire m k + 4) (128 + k))
+    → o₃ ≡ putGates o₂ (at + 28) (tailOf (outputWire m k) (outputWire m k + 7) t)
     → o₃ ≡ putGates out (outputAt k) (outputOf m k t)
-output-put m k t out o₁ o₂ o₃ p q r =
+output-put m k t at out o₁ o₂ o₃ e p q r =
     let w = outputWire m k in
     let outs = outGates w (w + 4) (128 + k) in
-    more out o₁ o₃ (outputAt k) (outputAt k + 16) (headOf w t) (outs ++ tailOf w (w + 7) t) p
-    (more o₁ o₂ o₃ (outputAt k + 16) (outputAt k + 28) outs (tailOf w (w + 7) t) q r (omega arith)) refl
+    more out o₁ o₃ at (at + 16) (headOf w t) (outs ++ tailOf w (w + 7) t) p
+    (more o₁ o₂ o₃ (at + 16) (at + 28) outs (tailOf w (w + 7) t) q r (omega arith)) refl
+    ∙ ap (λ (i : ℕ). putGates out i (outputOf m k t)) e
 
 tail-plain : (m n : ℕ) → n < 1152 → tailAt m n ≡ plainWire m n + 4
 unfolding tailAt
@@ -91,7 +94,7 @@ late-end iv m n o h g =
     let q : 1152 ≡ n = omega arith in
     let f : m - 0 ≡ m = omega arith in
     let w : outputWire m 0 ≡ plainWire m 1152 = omega arith in
-    ap₂ (λ (x y : ℕ). putGates o 64523 (gatesFrom 0 x 128 y (registersAt iv m 1152))) f w ∙ ap (λ (x : ℕ). putGates o (plainAt x) (plainRest iv m x)) q
+    ap₂ (λ (x y : ℕ). putGates o (outputAt 0) (gatesFrom 0 x 128 y (registersAt iv m 1152))) f w ∙ ap (λ (x : ℕ). putGates o (plainAt x) (plainRest iv m x)) q
 
 pub output-end : (iv : List ℕ) (m k : ℕ) (o : List ℕ) → k ≤ m → m ≤ k → o ≡ putGates o (outputAt k) (outputRest iv m k)
 unfolding outputRest gatesFrom putGates
@@ -100,15 +103,15 @@ output-end iv m k o h g =
     ap (λ (x : ℕ). putGates o (outputAt k) (gatesFrom 0 x (128 + k) (outputWire m k) (registersAt iv m (1152 + k)))) f
 
 -- ZERO, ONE and all rounds
-pub all-put : (iv : List ℕ) (m : ℕ) (out o₁ o₂ o₃ o₄ o₅ : List ℕ)
-    → o₁ ≡ sets out 3 (gateWords Zero) → o₂ ≡ sets o₁ 7 (gateWords One)
+pub all-put : (iv : List ℕ) (m i j : ℕ) (out o₁ o₂ o₃ o₄ o₅ : List ℕ) → i ≡ gatePlace 0 → j ≡ gatePlace 1
+    → o₁ ≡ sets out i (gateWords Zero) → o₂ ≡ sets o₁ j (gateWords One)
     → putGates o₃ (plainAt 111) (plainRest iv m 111) ≡ putGates o₂ (plainAt 0) (plainRest iv m 0)
     → putGates o₄ (outputAt 0) (outputRest iv m 0) ≡ putGates o₃ (plainAt 111) (plainRest iv m 111)
     → o₅ ≡ putGates o₄ (outputAt 0) (outputRest iv m 0)
-    → o₅ ≡ putGates out 3 (kreyviumGates iv m)
+    → o₅ ≡ putGates out headerWords (kreyviumGates iv m)
 unfolding kreyviumGates plainRest registersAt
-all-put iv m out o₁ o₂ o₃ o₄ o₅ e₁ e₂ e₃ e₄ e₅ =
+all-put iv m i j out o₁ o₂ o₃ o₄ o₅ ei ej e₁ e₂ e₃ e₄ e₅ =
     let w : plainWire m 0 ≡ 130 + m = omega arith in
-    more out o₂ o₅ 3 11 (Zero ∷ One ∷ []) (gatesFrom 1152 m 128 (plainWire m 0) (startWires iv m))
-    (two out o₁ o₂ 3 7 Zero One e₁ e₂ refl) (e₅ ∙ e₄ ∙ e₃) refl
-    ∙ ap (λ (x : ℕ). putGates out 3 (Zero ∷ One ∷ gatesFrom 1152 m 128 x (startWires iv m))) w
+    more out o₂ o₅ headerWords (plainAt 0) (Zero ∷ One ∷ []) (gatesFrom 1152 m 128 (plainWire m 0) (startWires iv m))
+    (two out o₁ o₂ headerWords (gatePlace 1) Zero One (e₁ ∙ ap (λ (n : ℕ). sets out n (gateWords Zero)) ei) (e₂ ∙ ap (λ (n : ℕ). sets o₁ n (gateWords One)) ej) refl) (e₅ ∙ e₄ ∙ e₃) refl
+    ∙ ap (λ (x : ℕ). putGates out headerWords (Zero ∷ One ∷ gatesFrom 1152 m 128 x (startWires iv m))) w

@@ -1,3 +1,3 @@
 pub mod Judging
-pub mod Places
-pub mod Rounds
+pub mod InnerPlaces
+pub mod InnerRounds

@@ -33,7 +33,8 @@ pub fn emit_kreyvium(m: u32, iv: &[u8], result: &mut [u32]) -> Answer
     let Answer::Done = r else {
         return r;
     };
-    let s = answer::room(result.len(), 64523 + 69 * (m as usize), 2);
+    let counts = write::counts_for(m);
+    let s = answer::room(result.len(), netlist::counts::word_count(counts), 2);
     let Answer::Done = s else {
         return s;
     };

@@ -6,7 +6,7 @@
 ghost use mathlib.Core.Path.{_≡_};
 ghost use Prim.Native.Nat.{_+_, _*_, _%_, _≤_, _<_};
 ghost use lib.ListN.{length};
-ghost use Rattle.register.specs.Places.{tailAt, registersAt, constWire, wireA, wireB, startC, wireC, tapsOf, placesA, placesB, placesC, agoOf, Small};
+ghost use Rattle.register.specs.InnerPlaces.{tailAt, registersAt, constWire, wireA, wireB, startC, wireC, tapsOf, placesA, placesB, placesC, agoOf, Small};
 
 // The wires of the five places that a round reads of a register, in the order of their numbers.
 pub(crate) struct Five {

@@ -6,8 +6,8 @@ use native.Mathlib.Omega.{arith}
 use lib.ListN.{length, getD, take, replicate, length-map, length-replicate, replicate-append-replicate}
 use Rattle.netlist.specs.Net.{at, depAlg, outsOf, depths, depth, maxOf}
 use Rattle.kreyvium.specs.Kreyvium.{Registers, push, k0, v0, moved, loaded}
-use Rattle.rounds.specs.Circuit.{bitOf, gain1, gain2, gain3, outA, roundA, roundsA, addedA, cipheredA}
-use Rattle.rounds.specs.Gates.{kreyviumNet}
+use Rattle.rounds.proofs.Circuit.{gain1, gain2, gain3, outA, roundA, roundsA, addedA, cipheredA}
+use Rattle.rounds.specs.Gates.{bitOf, kreyviumNet}
 use Rattle.rounds.proofs.Sound.{Every, All, every-push, every-replicate, all-loaded, kreyvium-outs}
 use Rattle.rounds.proofs.Net.{net-circuit}
 

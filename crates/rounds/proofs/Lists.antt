@@ -8,7 +8,7 @@ use lib.Seq.{length-take-le}
 use Rattle.netlist.proofs.Glued.{getD-map-lt, map-append}
 use Rattle.kreyvium.specs.Kreyvium.{Registers, push, k0, v0, moved, loaded}
 use Rattle.kreyvium.proofs.Streams.{registers-eq}
-use Rattle.rounds.specs.Circuit.{bitOf}
+use Rattle.rounds.specs.Gates.{bitOf}
 
 map-take : {X Y : Type 0} (f : X → Y) (n : ℕ) (l : List X) → map f (take n l) ≡ take n (map f l)
 map-take f zero l = refl

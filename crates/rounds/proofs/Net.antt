@@ -11,8 +11,8 @@ use Rattle.netlist.specs.Glue.{upFrom}
 use Rattle.netlist.proofs.Glued.{upFrom-length}
 use Rattle.netlist.proofs.Sim.{run-keeps}
 use Rattle.kreyvium.specs.Kreyvium.{loaded}
-use Rattle.rounds.specs.Circuit.{bitOf, roundsA, addedA, cipheredA}
-use Rattle.rounds.specs.Gates.{gatesFrom, startWires, kreyviumGates, kreyviumNet}
+use Rattle.rounds.proofs.Circuit.{roundsA, addedA, cipheredA}
+use Rattle.rounds.specs.Gates.{bitOf, gatesFrom, startWires, kreyviumGates, kreyviumNet}
 use Rattle.rounds.proofs.Lists.{Sized, mapRegisters, loaded-sized, map-bits, map-loaded}
 use Rattle.rounds.proofs.Runs.{Holds, run-holds, holds-right}
 use Rattle.rounds.proofs.Wires.{from-circuit}

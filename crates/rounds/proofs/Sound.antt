@@ -12,8 +12,7 @@ use Rattle.netlist.specs.Sound.{Sound}
 use Rattle.netlist.proofs.Glued.{wired-append}
 use Rattle.netlist.proofs.Words.{valid-sound}
 use Rattle.kreyvium.specs.Kreyvium.{Registers, push, moved, loaded}
-use Rattle.rounds.specs.Circuit.{bitOf}
-use Rattle.rounds.specs.Gates.{headGates, outGates, tailGates, moveWires, gatesFrom, outsFrom, startWires, kreyviumGates, kreyviumNet}
+use Rattle.rounds.specs.Gates.{bitOf, headGates, outGates, tailGates, moveWires, gatesFrom, outsFrom, startWires, kreyviumGates, kreyviumNet}
 
 infixr 20 _&_
 _&_ : {P Q : Type 0} → P → Q → P × Q

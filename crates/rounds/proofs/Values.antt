@@ -9,8 +9,8 @@ use Rattle.answer.specs.Bits.{added}
 use Rattle.netlist.specs.Net.{valAlg, eval}
 use Rattle.netlist.proofs.Bits.{Bits}
 use Rattle.kreyvium.specs.Kreyvium.{Registers, sA, sB, sC, k0, t1, t2, t3, roundOf, outOf, loaded, rounds, stream, streamOf}
-use Rattle.rounds.specs.Circuit.{bitOf, sum1, sum2, sum3, gain1, gain2, gain3, outA, roundA, roundsA, addedA, cipheredA}
-use Rattle.rounds.specs.Gates.{kreyviumNet}
+use Rattle.rounds.proofs.Circuit.{sum1, sum2, sum3, gain1, gain2, gain3, outA, roundA, roundsA, addedA, cipheredA}
+use Rattle.rounds.specs.Gates.{bitOf, kreyviumNet}
 use Rattle.rounds.proofs.Lists.{moved-eq}
 use Rattle.rounds.proofs.Sound.{All, all-moved, all-loaded}
 use Rattle.rounds.proofs.Net.{net-circuit}

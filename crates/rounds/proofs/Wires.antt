@@ -8,7 +8,7 @@ use Rattle.netlist.specs.Net.{Alg, at}
 use Rattle.netlist.specs.Glue.{upFrom}
 use Rattle.netlist.proofs.Glued.{getD-map-lt}
 use Rattle.kreyvium.specs.Kreyvium.{Registers, sA, sC, k0, v0}
-use Rattle.rounds.specs.Circuit.{sum1, sum2, sum3, gain1, gain2, gain3, outA, roundA, roundsA, addedA}
+use Rattle.rounds.proofs.Circuit.{sum1, sum2, sum3, gain1, gain2, gain3, outA, roundA, roundsA, addedA}
 use Rattle.rounds.specs.Gates.{headGates, outGates, tailGates, moveWires, gatesFrom, outsFrom}
 use Rattle.rounds.proofs.Lists.{Sized, mapRegisters, moved-sized, moved-eq, map-moved}
 use Rattle.rounds.proofs.Runs.{Holds, holds-left, holds-right, holds-zero}

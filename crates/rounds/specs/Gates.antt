@@ -6,7 +6,11 @@ use Rattle.netlist.specs.declared.gate.Gate.the-variants.{Zero, One, Xor, And}
 use Rattle.netlist.specs.Net.{Net}
 use Rattle.netlist.specs.Glue.{upFrom}
 use Rattle.kreyvium.specs.Kreyvium.{Registers, sA, sB, sC, k0, v0, moved, loaded}
-use Rattle.rounds.specs.Circuit.{bitOf}
+
+-- z for a bit 0, o for a bit 1
+unfoldable pub bitOf : {X : Type 0} → X → X → ℕ → X
+bitOf z o zero = z
+bitOf z o (suc b) = o
 
 -- t1, t2, s243 + s288, t3
 abbrev pub headGates : ℕ → Registers ℕ → List Gate

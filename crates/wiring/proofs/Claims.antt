@@ -7,7 +7,7 @@ use native.Mathlib.Omega.{arith}
 use native.Mathlib.Nat.{mul-le-mul}
 use lib.ListN.{length}
 use Rattle.netlist.specs.Net.{eval, depth, mults, Valid}
-use Rattle.netlist.specs.Words.{words}
+use Rattle.netlist.specs.Words.{netCounts, words}
 use Rattle.netlist.specs.Sound.{Limits, Sound}
 use Rattle.netlist.proofs.Words.{valid-sound}
 use Rattle.instance.proofs.Judged.{key-small, row-small}
@@ -58,7 +58,7 @@ module _ (inst m : ℕ) (idx wh : List ℕ) (low : 1 ≤ inst) (high : inst ≤ 
   rows-few h =
       omega (arith, rows-gates, ones-le wh, R .whitening, mul-le-mul h (row-small inst), mul-le-mul h (gates-small inst))
 
-  pub rows-limits : m ≤ 64 → Limits (rowsNet chain inst idx wh m .inputs) (length (rowsNet chain inst idx wh m .gates)) (length (rowsNet chain inst idx wh m .outs))
+  pub rows-limits : m ≤ 64 → Limits (netCounts (rowsNet chain inst idx wh m))
   unfolding rowsNet
   rows-limits h = record { inputs = omega (arith, key-small inst); gates = omega (arith, rows-few h); outputs = omega (arith, rows-outs) }
 

@@ -14,7 +14,7 @@ use Rattle.netlist.proofs.Parts.{length-join, input-carries, join-carries, inpu
 use Rattle.cells.specs.Cells.{thresholdPart}
 use Rattle.cells.proofs.Thr.{thrOf, thr-any, thr-sits, thr-mults, thr-depth}
 use Rattle.wiring.specs.Exp.{Exp, wire, sum, times, least, emit}
-use Rattle.wiring.specs.Costs.{muls, deep, size}
+use Rattle.wiring.proofs.Tally.{muls, deep, size}
 use Rattle.wiring.proofs.Counts.{threshold-gates}
 
 abbrev pub All : {X : Type 0} → (X → Type 0) → List X → Type 0

@@ -16,8 +16,10 @@ use Rattle.filter.specs.Instances.{degreesOf, tailOf, filterOf}
 use Rattle.filter.proofs.Sums.{sumOf-bit}
 use Rattle.filter.proofs.Published.{total}
 use Rattle.cells.proofs.Thr.{thrOf, thr-bits}
-use Rattle.wiring.specs.Exp.{Exp, sum, least, Split, monomials, fits}
-use Rattle.wiring.specs.Costs.{Cost, muls, deep, size}
+use Rattle.wiring.specs.Exp.{Exp, sum, least, Split, monomials}
+use Rattle.wiring.specs.Inner.{fits}
+use Rattle.wiring.specs.Costs.{Cost}
+use Rattle.wiring.proofs.Tally.{muls, deep, size}
 use Rattle.wiring.specs.Decipher.{filterExp}
 use Rattle.wiring.proofs.Exps.{All, Over, carried}
 use Rattle.wiring.proofs.Products.{Splits, Bit, on, all-on, ands, tallest, sum-two, map-drop, all-drop, monomials-over, monomials-value, monomials-muls, monomials-size, monomials-deep}

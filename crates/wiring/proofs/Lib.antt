@@ -1,3 +1,4 @@
+pub mod Tally
 pub mod Counts
 pub mod Exps
 pub mod Products

@@ -11,7 +11,8 @@ use Rattle.netlist.proofs.Glued.{wired-append, muls-append}
 use Rattle.instance.specs.Table.{rowBits}
 use Rattle.filter.specs.Instances.{filterOf}
 use Rattle.wiring.specs.Exp.{Exp, wire, emit, Split}
-use Rattle.wiring.specs.Costs.{Cost, muls, deep, size}
+use Rattle.wiring.specs.Costs.{Cost}
+use Rattle.wiring.proofs.Tally.{muls, deep, size}
 use Rattle.wiring.specs.Decipher.{nots, vars, filterExp, bitExp, bitPart}
 use Rattle.wiring.proofs.Exps.{All, Over, carried, emit-carries, emit-sits, emit-mults, emit-size, depth-deep}
 use Rattle.wiring.proofs.Products.{Splits, on, sum-two}

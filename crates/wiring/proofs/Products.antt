@@ -12,8 +12,9 @@ use Rattle.netlist.specs.Net.{at, valAlg}
 use Rattle.filter.specs.Filter.{prod, sumOf}
 use Rattle.filter.proofs.Sums.{bit-times}
 use Rattle.filter.proofs.Published.{total}
-use Rattle.wiring.specs.Exp.{Exp, sum, Split, one, two, factors, chain, product, addAll, monomials, both, fits}
-use Rattle.wiring.specs.Costs.{muls, deep, size, height}
+use Rattle.wiring.specs.Exp.{Exp, sum, Split, one, two, factors, chain, product, addAll, monomials}
+use Rattle.wiring.specs.Inner.{both, fits}
+use Rattle.wiring.proofs.Tally.{muls, deep, size, height}
 use Rattle.wiring.proofs.Exps.{All, Over, carried}
 
 -- a way to split a product of each number of wires

@@ -5,8 +5,10 @@ use native.Mathlib.Omega.{arith}
 use Rattle.instance.specs.Table.{sizesOf}
 use Rattle.filter.specs.Instances.{degreesOf}
 use Rattle.filter.proofs.Published.{total}
-use Rattle.wiring.specs.Exp.{chain, fits}
-use Rattle.wiring.specs.Costs.{costOf, height}
+use Rattle.wiring.specs.Exp.{chain}
+use Rattle.wiring.specs.Inner.{fits}
+use Rattle.wiring.specs.Costs.{costOf}
+use Rattle.wiring.proofs.Tally.{height}
 use Rattle.wiring.proofs.Products.{ands, tallest}
 use Rattle.wiring.proofs.Filters.{Known}
 

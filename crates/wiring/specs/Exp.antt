@@ -1,8 +1,6 @@
 -- What a wire is to carry, as an expression over wires that are there already: its gates stand in the order in which
 -- the rules name them, first operand, second operand, the gate over both.
-use Prim.Native.Nat.{ℕ, zero, suc, _+_, _-_}
-use mathlib.Core.Bool.{Bool, true, false}
-use lib.Dec.{leb, ltb}
+use Prim.Native.Nat.{ℕ, zero, suc, _+_}
 use mathlib.Core.List.{List, [], _∷_}
 use lib.ListN.{getD, take, drop}
 use Rattle.netlist.specs.declared.gate.Gate.the-variants.{Xor, And}
@@ -51,12 +49,3 @@ addAll S acc (d ∷ ds) ws = addAll S (sum acc (product (S d) (take d ws))) ds (
 unfoldable pub monomials : (ℕ → Split) → List ℕ → List ℕ → Exp
 monomials S [] ws = wire 0
 monomials S (d ∷ ds) ws = addAll S (product (S d) (take d ws)) ds (drop d ws)
-
-abbrev pub both : Bool → Bool → Bool
-both true b = b
-both false b = false
-
--- degrees from 1 on that n wires suffice for: a test that computes
-unfoldable pub fits : List ℕ → ℕ → Bool
-fits [] n = true
-fits (d ∷ ds) n = both (ltb 0 d) (both (leb d n) (fits ds (n - d)))

@@ -4,7 +4,7 @@ use lib.ListN.{length}
 use Rattle.answer.specs.declared.Answer.the-variants.{Done}
 use Rattle.answer.proofs.Rows.{stop, pass}
 use Rattle.answer.proofs.Over.{kept, made}
-use Rattle.netlist.specs.Words.{words}
+use Rattle.netlist.specs.Words.{wordCount, words}
 use Rattle.answer.specs.Judges.{roomAnswer}
 use Rattle.answer.proofs.Judges.{room-done}
 use Rattle.rounds.specs.Gates.{kreyviumNet}
@@ -15,17 +15,26 @@ use borrow.Author.Needs.{needs}
 use Rattle.register.proofs.emit_kreyvium.Statement.{statement}
 use Rattle.register.proofs.emit_kreyvium.Tie as tie
 
--- the IV is accepted
-accepted : (c : tie.After-enum-told) → let a = c .before .before .before .before .before .args in ivAnswer (a .m) (now (a .iv)) ≡ Done
+-- where the IV is accepted, and the call's start
+abbrev judged : tie.After-room → tie.After-enum-told
+judged c = c .before .before .before
+
+abbrev start : tie.After-enum-told → tie.Start
+start c = c .before .before .before .before .before
+
+accepted : (c : tie.After-enum-told) → let a = start c .args in ivAnswer (a .m) (now (a .iv)) ≡ Done
 accepted c = sym (c .before .before .judge-iv .ensures) ∙ c .enum-told .given .1
 
--- and what is answered on the room
+-- what is answered on the room
 due : (c : tie.After-room)
-    → let a = c .before .before .before .before .before .before .args in
+    → let a = start (judged c) .args in
     c .room .result ≡ roomAnswer 2 (length (now (a .result))) (length (words (kreyviumNet (now (a .iv)) (a .m))))
 due c =
-    let a = c .before .before .before .before .before .before .args in
-    c .room .ensures ∙ ap (roomAnswer 2 (length (now (a .result)))) (sym (kreyvium-length (now (a .iv)) (a .m)))
+    let a = start (judged c) .args in
+    let words = c .before in
+    c .room .ensures
+    ∙ ap (roomAnswer 2 (length (now (a .result))))
+    (words .word-count .ensures ∙ ap wordCount (words .before .counts-for .ensures) ∙ sym (kreyvium-length (now (a .iv)) (a .m)))
 
 judge-iv-requires : tie.Need-judge-iv-requires
 judge-iv-requires c κs = search needs
@@ -46,11 +55,11 @@ returns c =
       written = kept _ (now (a .result)) (c .enum-told2 .given .1);
     }
 
-mul-room : tie.Need-mul-room
-mul-room c = search needs
+counts-for-requires : tie.Need-counts-for-requires
+counts-for-requires c κs = iv-done _ _ (accepted c) .1
 
-add-room : tie.Need-add-room
-add-room c = search needs
+word-count-requires : tie.Need-word-count-requires
+word-count-requires c κs = search needs
 
 room-requires : tie.Need-room-requires
 room-requires c κs = search needs
@@ -65,13 +74,13 @@ returns-2 : tie.Need-returns-2
 unfolding emitKreyviumAnswer
 returns-2 c =
     let r = c .before .before in
-    let a = r .before .before .before .before .before .before .args in
-    record { answered = pass (accepted (r .before)) (due r); written = kept _ (now (a .result)) (c .enum-told4 .given .1) }
+    let a = start (judged r) .args in
+    record { answered = pass (accepted (judged r)) (due r); written = kept _ (now (a .result)) (c .enum-told4 .given .1) }
 
 put-kreyvium-requires : tie.Need-put-kreyvium-requires
 put-kreyvium-requires c κs =
     let r = c .before .before .before in
-    let d = iv-done _ _ (accepted (r .before)) in
+    let d = iv-done _ _ (accepted (judged r)) in
     (d .1, d .2 .size, room-done 2 _ _ (sym (due r) ∙ c .before .enum-told3 .given .1))
 
 same-length : tie.Need-same-length
@@ -84,7 +93,7 @@ returns-3 c =
     let t = k .before .before in
     let r = t .before .before in
     record {
-      answered = sym (t .enum-told3 .given .1) ∙ pass (accepted (r .before)) (due r);
+      answered = sym (t .enum-told3 .given .1) ∙ pass (accepted (judged r)) (due r);
       written = k .put-kreyvium .ensures ∙ made _ _ refl;
     }
 
@@ -96,8 +105,8 @@ emit-kreyvium-spec =
     enum-told
     enum-told-2
     returns
-    mul-room
-    add-room
+    counts-for-requires
+    word-count-requires
     room-requires
     enum-told-3
     enum-told-4

@@ -3,7 +3,7 @@ use native.Mathlib.Omega.{arith}
 use lib.ListN.{length}
 use Rattle.netlist.specs.Glue.{upFrom}
 use Rattle.netlist.proofs.Glued.{upFrom-length, upFrom-at}
-use Rattle.cells.specs.Loop.{cells}
+use Rattle.cells.specs.InnerLoop.{cells}
 use Rattle.emit.proofs.Climbing.{Counting, counting-start, counting-fits, counting-next, counting-end}
 use Rattle.emit.proofs.Leaves.{pos-le}
 use Rattle.emit.proofs.levels.count_cells.Statement.{statement}

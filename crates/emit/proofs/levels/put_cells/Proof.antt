@@ -3,7 +3,7 @@ use mathlib.Core.Path.{_∙_}
 use native.Mathlib.Omega.{arith}
 use denote.Ref.{now}
 use lib.ListN.{length}
-use Rattle.cells.specs.Loop.{cells}
+use Rattle.cells.specs.InnerLoop.{cells}
 use Rattle.emit.proofs.Climbing.{Climbing, climbing-start, climbing-fits, climbing-next, climbing-end, climbing-whole, cells-length}
 use Rattle.emit.proofs.levels.put_cells.Statement.{statement}
 use Rattle.emit.proofs.levels.put_cells.Tie as tie

@@ -2,7 +2,7 @@ use Prim.Native.Nat.{_+_, _*_, _≤_, _<_}
 use mathlib.Core.Path.{_≡_, refl, _∙_}
 use native.Mathlib.Omega.{arith}
 use lib.ListN.{length}
-use Rattle.cells.specs.Loop.{tail}
+use Rattle.cells.specs.InnerLoop.{tail}
 use Rattle.netlist.specs.Put.{putGates}
 use Rattle.emit.proofs.Leaves.{tail-turn, tail-end}
 use Rattle.emit.proofs.levels.put_tail.Statement.{statement}

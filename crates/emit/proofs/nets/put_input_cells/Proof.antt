@@ -8,7 +8,7 @@ use lib.ListN.{length, take}
 use Rattle.netlist.specs.Glue.{upFrom}
 use Rattle.netlist.specs.Put.{putGates}
 use Rattle.netlist.proofs.Glued.{upFrom-length, upFrom-at}
-use Rattle.cells.specs.Loop.{cells}
+use Rattle.cells.specs.InnerLoop.{cells}
 use Rattle.emit.proofs.Shapes.{wires-taken}
 use Rattle.emit.proofs.nets.put_input_cells.Statement.{statement}
 use Rattle.emit.proofs.nets.put_input_cells.Tie as tie

@@ -20,8 +20,12 @@ const-wire-requires c κs = search needs
 
 returns : tie.Need-returns
 returns c =
-    taps-are _ _ _ _ _ _ _ _ (c .before .before .before .before .before .before .pre .iv)
-    (c .before .before .before .before .five-a .ensures) (c .before .before .before .five-b .ensures) (c .before .before .five-c .ensures)
+    let at-five-c = c .before .before in
+    let at-five-b = at-five-c .before in
+    let at-five-a = at-five-b .before in
+    let start = at-five-a .before .before in
+    taps-are _ _ _ _ _ _ _ _ (start .pre .iv)
+    (at-five-a .five-a .ensures) (at-five-b .five-b .ensures) (at-five-c .five-c .ensures)
     (c .before .leaving .ensures) (c .const-wire .ensures)
 
 pub early-taps-spec : {M : Type 1} → statement M

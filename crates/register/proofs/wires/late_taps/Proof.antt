@@ -39,11 +39,15 @@ const-wire-requires c κs = search needs
 
 returns : tie.Need-returns
 returns c =
-    let p = c .before .before .before .before .before .before .pre in
+    let at-ago3 = c .before .before in
+    let at-ago2 = at-ago3 .before in
+    let at-ago = at-ago2 .before in
+    let start = at-ago .before .before in
+    let p = start .pre in
     taps-are _ _ _ _ _ _ _ _ (p .0 .iv)
-    (c .before .before .before .before .ago .ensures ∙ late-a _ _ (p .1) (p .0 .n))
-    (c .before .before .before .ago2 .ensures ∙ late-b _ _ (p .1) (p .0 .n) _)
-    (c .before .before .ago3 .ensures ∙ late-c _ _ (p .1) (p .0 .n) _)
+    (at-ago .ago .ensures ∙ late-a _ _ (p .1) (p .0 .n))
+    (at-ago2 .ago2 .ensures ∙ late-b _ _ (p .1) (p .0 .n) _)
+    (at-ago3 .ago3 .ensures ∙ late-c _ _ (p .1) (p .0 .n) _)
     (c .before .leaving .ensures) (c .const-wire .ensures)
 
 pub late-taps-spec : {M : Type 1} → statement M

@@ -1,6 +1,6 @@
 use native.Mathlib.Omega.{arith}
 use borrow.Author.Needs.{needs}
-use Rattle.register.specs.Places.{tailAt}
+use Rattle.register.specs.InnerPlaces.{tailAt}
 use Rattle.register.proofs.wires.tail_at.Statement.{statement}
 use Rattle.register.proofs.wires.tail_at.Tie as tie
 

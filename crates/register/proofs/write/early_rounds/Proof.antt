@@ -4,7 +4,7 @@ use native.Mathlib.Omega.{arith}
 use lib.ListN.{length}
 use Rattle.netlist.specs.Put.{putGates}
 use Rattle.netlist.proofs.Puts.{put-length}
-use Rattle.register.specs.Rounds.{plainAt, plainRest}
+use Rattle.register.specs.InnerRounds.{plainAt, plainRest}
 use Rattle.register.proofs.Rounds.{plain-turn, early-end}
 use Rattle.register.proofs.write.early_rounds.Statement.{statement}
 use Rattle.register.proofs.write.early_rounds.Tie as tie
@@ -25,7 +25,10 @@ early-taps-requires c κs =
     record { iv = p .1; m = p .0; n = omega arith }
 
 plain-round-requires : tie.Need-plain-round-requires Inv-loop μ-loop
-plain-round-requires c κs = (c .before .before .before .before .before .before .pre .0, omega arith, omega arith)
+plain-round-requires c κs =
+    let in-loop = c .before .before in
+    let start = in-loop .before .before .before .before in
+    (start .pre .0, omega arith, omega arith)
 
 add-n : tie.Need-add-n Inv-loop μ-loop
 add-n c = omega arith

@@ -4,7 +4,7 @@ use native.Mathlib.Omega.{arith}
 use lib.ListN.{length}
 use Rattle.netlist.specs.Put.{putGates}
 use Rattle.netlist.proofs.Puts.{put-length}
-use Rattle.register.specs.Rounds.{outputAt, outputRest}
+use Rattle.register.specs.InnerRounds.{outputAt, outputRest}
 use Rattle.register.proofs.Rounds.{output-turn, output-end}
 use Rattle.register.proofs.write.output_rounds.Statement.{statement}
 use Rattle.register.proofs.write.output_rounds.Tie as tie
@@ -28,7 +28,10 @@ late-taps-requires c κs =
     (record { iv = p .1; m = p .0; n = omega (arith, p .0) }, omega arith)
 
 output-round-requires : tie.Need-output-round-requires Inv-loop μ-loop
-output-round-requires c κs = (c .before .before .before .before .before .before .pre .0, omega arith, omega arith)
+output-round-requires c κs =
+    let in-loop = c .before .before in
+    let start = in-loop .before .before .before .before in
+    (start .pre .0, omega arith, omega arith)
 
 add-k : tie.Need-add-k Inv-loop μ-loop
 add-k c = omega arith

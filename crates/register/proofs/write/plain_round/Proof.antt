@@ -12,11 +12,14 @@ mul-w c = search needs
 add-w-2 : tie.Need-add-w-2
 add-w-2 c = search needs
 
-mul-at : tie.Need-mul-at
-mul-at c = search needs
+mul-gate-place : tie.Need-mul-gate-place
+mul-gate-place c = search needs
 
-add-at : tie.Need-add-at
-add-at c = search needs
+add-gate-place : tie.Need-add-gate-place
+add-gate-place c = search needs
+
+gate-place-requires : tie.Need-gate-place-requires
+gate-place-requires c κs = search needs
 
 put-head-requires : tie.Need-put-head-requires
 put-head-requires c κs = search needs
@@ -34,7 +37,10 @@ same-length : tie.Need-same-length
 same-length c = search needs
 
 returns : tie.Need-returns
-returns c = plain-put _ _ _ _ _ _ (c .before .before .before .before .before .before .put-head .ensures) (c .before .before .put-tail .ensures)
+returns c =
+    let tail = c .before .before in
+    let head = tail .before .before .before .before in
+    plain-put _ _ _ _ _ _ _ (head .before .before .gate-place .ensures) (head .put-head .ensures) (tail .put-tail .ensures)
 
 pub plain-round-spec : {M : Type 1} → statement M
 plain-round-spec =
@@ -43,8 +49,9 @@ plain-round-spec =
     add-w
     mul-w
     add-w-2
-    mul-at
-    add-at
+    mul-gate-place
+    add-gate-place
+    gate-place-requires
     put-head-requires
     add-put-tail
     add-put-tail-2

@@ -31,7 +31,12 @@ same-length : tie.Need-same-length
 same-length c = search needs
 
 returns : tie.Need-returns
-returns c = four _ _ _ _ _ _ _ _ (c .before .before .before .before .before .before .before .before .before .before .before .before .before .before .put-gate .ensures) (c .before .before .before .before .before .before .before .before .before .before .put-gate2 .ensures) (c .before .before .before .before .before .before .put-gate3 .ensures) _ _ (c .before .before .put-gate4 .ensures)
+returns c =
+    let at-put-gate4 = c .before .before in
+    let at-put-gate3 = at-put-gate4 .before .before .before .before in
+    let at-put-gate2 = at-put-gate3 .before .before .before .before in
+    let at-put-gate = at-put-gate2 .before .before .before .before in
+    four _ _ _ _ _ _ _ _ (at-put-gate .put-gate .ensures) (at-put-gate2 .put-gate2 .ensures) (at-put-gate3 .put-gate3 .ensures) _ _ (at-put-gate4 .put-gate4 .ensures)
 
 pub put-head-spec : {M : Type 1} → statement M
 put-head-spec =

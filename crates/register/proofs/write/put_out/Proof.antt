@@ -37,7 +37,11 @@ same-length : tie.Need-same-length
 same-length c = search needs
 
 returns : tie.Need-returns
-returns c = three _ _ _ _ _ _ _ _ (c .before .before .before .before .before .before .before .before .before .before .put-gate .ensures) (c .before .before .before .before .before .before .put-gate2 .ensures) (c .before .before .put-gate3 .ensures)
+returns c =
+    let at-put-gate3 = c .before .before in
+    let at-put-gate2 = at-put-gate3 .before .before .before .before in
+    let at-put-gate = at-put-gate2 .before .before .before .before in
+    three _ _ _ _ _ _ _ _ (at-put-gate .put-gate .ensures) (at-put-gate2 .put-gate2 .ensures) (at-put-gate3 .put-gate3 .ensures)
 
 pub put-out-spec : {M : Type 1} → statement M
 put-out-spec =

@@ -1,35 +1,37 @@
-use Rattle.rounds.specs.Gates.{outsFrom}
-use mathlib.Core.Path.{_≡_, refl, _∙_}
+use mathlib.Core.Path.{_≡_, refl, sym, _∙_}
 use denote.Ref.{now}
-use lib.Seq.{sets}
 use lib.ListN.{length, length-set}
-use Prim.Native.Nat.{_+_, _-_, _*_, _≤_}
-use Rattle.register.proofs.Words.{outs-start, outs-turn, outs-end}
+use Prim.Native.Nat.{_-_, _≤_}
+use Rattle.register.proofs.Words.{OutsFrom, outs-start, outs-turn, outs-end}
 use borrow.Author.Needs.{needs, scaled-fits}
 use native.Mathlib.Omega.{arith}
 use Rattle.register.proofs.write.put_outs.Statement.{statement}
 use Rattle.register.proofs.write.put_outs.Tie as tie
 
 abbrev Inv-loop : tie.InvT-loop
-Inv-loop out₀ m k₀ out k = (sets out (64523 + 68 * m + k) (outsFrom 0 (m - k) (16258 + m + 17 * k)) ≡ sets out₀ (64523 + 68 * m) (outsFrom 0 m (16258 + m))) × (k ≤ m) × (length out ≡ length out₀)
+Inv-loop out₀ m start k₀ out k =
+    (OutsFrom m k out ≡ OutsFrom m 0 out₀) × (k ≤ m) × (length out ≡ length out₀)
 
 abbrev μ-loop : tie.MeasureT-loop
-μ-loop out₀ m k₀ out k = m - k
+μ-loop out₀ m start k₀ out k = m - k
+
+mul-gate-place : tie.Need-mul-gate-place Inv-loop μ-loop
+mul-gate-place c = search needs
+
+add-gate-place : tie.Need-add-gate-place Inv-loop μ-loop
+add-gate-place c = search needs
+
+gate-place-requires : tie.Need-gate-place-requires Inv-loop μ-loop
+gate-place-requires c κs = search needs
 
 loop-holds : tie.Need-loop-holds Inv-loop μ-loop
-loop-holds c = (outs-start _ _, omega arith, refl)
-
-mul-at : tie.Need-mul-at Inv-loop μ-loop
-mul-at c = omega arith
-
-add-at : tie.Need-add-at Inv-loop μ-loop
-add-at c = omega arith
+loop-holds c = (refl, omega arith, refl)
 
 cast-at : tie.Need-cast-at Inv-loop μ-loop
 cast-at c = search needs
 
-add-at-2 : tie.Need-add-at-2 Inv-loop μ-loop
-add-at-2 c = omega arith
+add-at : tie.Need-add-at Inv-loop μ-loop
+add-at c = omega (arith, c .before .before .gate-place .ensures)
 
 add-out : tie.Need-add-out Inv-loop μ-loop
 add-out c = omega arith
@@ -41,10 +43,12 @@ add-out-2 : tie.Need-add-out-2 Inv-loop μ-loop
 add-out-2 c = omega arith
 
 mul-out-2 : tie.Need-mul-out-2 Inv-loop μ-loop
-mul-out-2 c = scaled-fits _ (length (now (c .before .before .args .out))) 4 (omega arith) (c .before .before .good .0 .1)
+mul-out-2 c =
+    let d = c .before .before in
+    scaled-fits _ (length (now (d .before .before .args .out))) 4 (omega (arith, d .gate-place .ensures)) (d .before .before .good .0 .1)
 
 slice-write-out : tie.Need-slice-write-out Inv-loop μ-loop
-slice-write-out c = omega arith
+slice-write-out c = omega (arith, c .before .before .gate-place .ensures)
 
 add-k : tie.Need-add-k Inv-loop μ-loop
 add-k c = omega arith
@@ -53,13 +57,15 @@ loop-less : tie.Need-loop-less Inv-loop μ-loop
 loop-less c = omega arith
 
 loop-again : tie.Need-loop-again Inv-loop μ-loop
-loop-again c = (outs-turn _ _ _ (c .loop-test .taken) ∙ c .before .loop .inv .0, omega arith, simp length-set (c .before .loop .inv .2))
+loop-again c =
+    let v = c .before .loop .inv in
+    (outs-turn _ _ _ _ (c .before .before .gate-place .ensures) (c .loop-test .taken) ∙ v .0, omega arith, simp length-set (v .2))
 
 same-length : tie.Need-same-length Inv-loop μ-loop
 same-length c = c .before .loop .inv .2
 
 returns : tie.Need-returns Inv-loop μ-loop
-returns c = outs-end _ _ _ _ (c .before .loop .inv .1) (c .loop-test .left) (c .before .loop .inv .0)
+returns c = sym (outs-end _ _ _ (c .loop-test .left)) ∙ c .before .loop .inv .0 ∙ outs-start _ _
 
 pub put-outs-spec : {M : Type 1} → statement M
 put-outs-spec =
@@ -67,11 +73,12 @@ put-outs-spec =
     (tie.spec
     Inv-loop
     μ-loop
+    mul-gate-place
+    add-gate-place
+    gate-place-requires
     loop-holds
-    mul-at
-    add-at
     cast-at
-    add-at-2
+    add-at
     add-out
     mul-out
     add-out-2

@@ -52,7 +52,12 @@ same-length : tie.Need-same-length
 same-length c = search needs
 
 returns : tie.Need-returns
-returns c = tail-put _ _ _ _ _ _ _ _ _ _ _ _ _ _ _ _ (c .before .before .before .before .before .before .before .before .before .before .before .before .before .before .put-gain .ensures) (c .before .before .before .before .before .before .before .before .before .before .put-gate .ensures) (c .before .before .before .before .before .before .put-gain2 .ensures) (c .before .before .put-gain3 .ensures)
+returns c =
+    let at-put-gain3 = c .before .before in
+    let at-put-gain2 = at-put-gain3 .before .before .before .before in
+    let at-put-gate = at-put-gain2 .before .before .before .before in
+    let at-put-gain = at-put-gate .before .before .before .before in
+    tail-put _ _ _ _ _ _ _ _ _ _ _ _ _ _ _ _ (at-put-gain .put-gain .ensures) (at-put-gate .put-gate .ensures) (at-put-gain2 .put-gain2 .ensures) (at-put-gain3 .put-gain3 .ensures)
 
 pub put-tail-spec : {M : Type 1} → statement M
 put-tail-spec =

@@ -3,10 +3,7 @@ use mathlib.Core.List.{List, [], _∷_, map}
 use Prim.Native.Nat.{ℕ, zero, suc}
 use Rattle.netlist.specs.Net.{Alg}
 use Rattle.kreyvium.specs.Kreyvium.{Registers, sA, sB, sC, k0, v0, moved, loaded}
-
-unfoldable pub bitOf : {X : Type 0} → X → X → ℕ → X
-bitOf z o zero = z
-bitOf z o (suc b) = o
+use Rattle.rounds.specs.Gates.{bitOf}
 
 module _ {X : Type 0} (A : Alg X) where
   module _ (s : Registers X) where

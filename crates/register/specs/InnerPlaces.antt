@@ -1,4 +1,5 @@
--- Where the wires of Kreyvium's registers stand, in closed form. Only promises of private functions cite this.
+-- Inner: what contracts of this crate's private functions cite, and no promise that a caller reads. Where the wires of Kreyvium's
+-- registers stand, in closed form.
 use mathlib.Core.Path.{_≡_}
 use mathlib.Core.List.{List, [], _∷_, _++_}
 use Prim.Native.Nat.{ℕ, zero, suc, _+_, _-_, _*_, _≤_, _<_}
@@ -8,8 +9,7 @@ use Rattle.netlist.specs.declared.gate.Gate.{Gate}
 use Rattle.netlist.specs.declared.gate.Gate.the-variants.{Xor, And}
 use Rattle.kreyvium.specs.Kreyvium.{Registers, sA, sB, sC, k0, v0}
 use Rattle.answer.specs.Choose.{choose}
-use Rattle.rounds.specs.Circuit.{bitOf}
-use Rattle.rounds.specs.Gates.{startWires, moveWires}
+use Rattle.rounds.specs.Gates.{bitOf, startWires, moveWires}
 use Rattle.register.specs.declared.wires.Five.{Five}
 use Rattle.register.specs.declared.wires.Taps.{Taps}
 

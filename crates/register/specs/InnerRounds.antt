@@ -1,15 +1,21 @@
--- Where the words and wires of Kreyvium's rounds begin, their gates over what they read, and the gates that remain. Only
--- promises of private functions cite this.
+-- Inner: what contracts of this crate's private functions cite, and no promise that a caller reads. Where the words and wires of
+-- Kreyvium's rounds begin, their gates over what they read, and the gates that remain.
 use mathlib.Core.List.{List, _++_}
 use Prim.Native.Nat.{ℕ, _+_, _-_, _*_}
+use Rattle.netlist.specs.declared.counts.Counts.{Counts}
 use Rattle.netlist.specs.declared.gate.Gate.{Gate}
+use Rattle.netlist.specs.Words.{gatePlace}
 use Rattle.rounds.specs.Gates.{outGates, gatesFrom}
 use Rattle.register.specs.declared.wires.Taps.{Taps}
-use Rattle.register.specs.Places.{registersAt, headOf, tailOf}
+use Rattle.register.specs.InnerPlaces.{registersAt, headOf, tailOf}
+
+-- the counts of the netlist for m bits: ZERO and ONE stand before the rounds
+abbrev pub countsFor : ℕ → Counts
+countsFor m = record { inputs = 128 + m; gates = 16130 + 17 * m; outputs = m }
 
 -- round n, without output: its first word and wire, its gates, and all gates from there on
 abbrev pub plainAt : ℕ → ℕ
-plainAt n = 11 + 56 * n
+plainAt n = gatePlace (2 + 14 * n)
 
 abbrev pub plainWire : ℕ → ℕ → ℕ
 plainWire m n = 130 + m + 14 * n
@@ -22,7 +28,7 @@ plainRest iv m n = gatesFrom (1152 - n) m 128 (plainWire m n) (registersAt iv m 
 
 -- round 1,152 + k, with output
 abbrev pub outputAt : ℕ → ℕ
-outputAt k = 64523 + 68 * k
+outputAt k = gatePlace (16130 + 17 * k)
 
 abbrev pub outputWire : ℕ → ℕ → ℕ
 outputWire m k = 16258 + m + 17 * k
