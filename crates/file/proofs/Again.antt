@@ -8,11 +8,11 @@ use native.Mathlib.Nat.{add-zero, zero-add}
 use lib.ListN.{length, getD}
 use borrow.Author.Tests.{lt-ltb}
 use Rattle.answer.specs.Choose.{choose}
-use Rattle.netlist.specs.Words.{gatePlace, gatesOf, outputsOf}
+use Rattle.netlist.specs.Words.{headerWords, gatePlace, gatesOf, outputsOf}
 use Rattle.records.specs.declared.form.Form.{Form}
 use Rattle.records.specs.Bytes.{wordAt, joined}
-use Rattle.records.specs.File.{byteN, byteG, byteO, markOf, widthOf, gatesIn, outputsIn, sizeAt, startOf, operandAt, fourIn, wordsIn}
-use Rattle.records.specs.Steps.{Framed}
+use Rattle.records.specs.File.{byteN, byteG, byteO, markOf, widthOf, headSize, outSize, gatesIn, outputsIn, sizeAt, startOf, operandAt, fourIn, wordsIn}
+use Rattle.records.specs.Inner.{Framed}
 use Rattle.records.proofs.Found.{out-ends, gate-word, output-word}
 use Rattle.file.specs.Bytes.{little, Bytes}
 use Rattle.file.specs.File.{wordsBytes, headBytes, gateBytes, outBytes, fileOf}
@@ -22,7 +22,7 @@ use Rattle.file.proofs.Written.{width-most}
 -- ---- the words by place
 
 module _ (form : Form) (s : List ℕ) where
-  count-word : (j : ℕ) → j < 3 → getD (wordsIn form s) (0 + j) 0 ≡ wordAt s (2 + 4 * j)
+  count-word : (j : ℕ) → j < headerWords → getD (wordsIn form s) (0 + j) 0 ≡ wordAt s (2 + 4 * j)
   unfolding wordsIn
   count-word zero h = refl
   count-word (suc zero) h = refl
@@ -72,11 +72,11 @@ module _ (form : Form) (s : List ℕ) (b : Bytes s) (f : Framed form s) where
   outputs-word : outputsOf (wordsIn form s) ≡ outputsIn s
   outputs-word = count-word form s 2 (omega arith)
 
-  head-again : headBytes form (wordsIn form s) ≡ part s 0 14
+  head-again : headBytes form (wordsIn form s) ≡ part s 0 headSize
   unfolding headBytes
   head-again =
-      rw (words-again s (wordsIn form s) 2 0 3 b (count-word form s))
-      (part-two s 0 12 (markOf form) (f .head .first) (f .head .second))
+      rw (words-again s (wordsIn form s) 2 0 headerWords b (count-word form s))
+      (part-two s 0 (4 * headerWords) (markOf form) (f .head .first) (f .head .second))
 
   -- a written operand
   operand-again : (g j : ℕ) → g < gatesIn s → j < widthOf form (getD s (startOf form s g + 2) 0)
@@ -95,14 +95,14 @@ module _ (form : Form) (s : List ℕ) (b : Bytes s) (f : Framed form s) where
       rw (kind-word form s g h, zero-add p, words-again s (wordsIn form s) (p + 3) (gatePlace g + 1) (widthOf form (getD s (p + 2) 0)) b (λ j l. operand-again g j h l))
       (part-three s p _ byteG _ (w .first) (w .second) refl)
 
-  one-out : (o j : ℕ) → o < outputsIn s → j < 1 → getD (wordsIn form s) (gatePlace (gatesIn s) + o + j) 0 ≡ wordAt s (startOf form s (gatesIn s) + 6 * o + 2 + 4 * j)
+  one-out : (o j : ℕ) → o < outputsIn s → j < 1 → getD (wordsIn form s) (gatePlace (gatesIn s) + o + j) 0 ≡ wordAt s (startOf form s (gatesIn s) + outSize * o + 2 + 4 * j)
   one-out o zero h l = simp add-zero (output-word form s o h)
   one-out o (suc j) h l = absurd (omega arith)
 
-  out-again : (o : ℕ) → o < outputsIn s → outBytes (wordsIn form s) o ≡ part s (0 + (startOf form s (gatesIn s) + 6 * o)) 6
+  out-again : (o : ℕ) → o < outputsIn s → outBytes (wordsIn form s) o ≡ part s (0 + (startOf form s (gatesIn s) + outSize * o)) outSize
   unfolding outBytes
   out-again o h =
-      let p = startOf form s (gatesIn s) + 6 * o in
+      let p = startOf form s (gatesIn s) + outSize * o in
       let w = f .out o h in
       rw (gates-word, zero-add p, words-again s (wordsIn form s) (p + 2) (gatePlace (gatesIn s) + o) 1 b (λ j l. one-out o j h l))
       (part-two s p 4 byteO (w .first) (w .second))
@@ -114,10 +114,10 @@ module _ (form : Form) (s : List ℕ) (b : Bytes s) (f : Framed form s) where
       let G = gatesIn s in
       let O = outputsIn s in
       let p = startOf form s G in
-      let g : part s 0 14 ++ joined G (gateBytes form ws) ≡ part s 0 p =
+      let g : part s 0 headSize ++ joined G (gateBytes form ws) ≡ part s 0 p =
       joined-part s 0 G (gateBytes form ws) (startOf form s) (λ i. sizeAt form s (startOf form s i)) (λ i l. refl) gate-again in
-      let o : part s 0 (p + 6 * 0) ++ joined O (outBytes ws) ≡ part s 0 (p + 6 * O) =
-      joined-part s 0 O (outBytes ws) (λ i. p + 6 * i) (λ i. 6) (λ i l. omega arith) out-again in
-      let z : p + 6 * 0 ≡ p = omega arith in
-      let e : p + 6 * O ≡ length s = omega (arith, out-ends form s f O (omega arith), f .rest) in
+      let o : part s 0 (p + outSize * 0) ++ joined O (outBytes ws) ≡ part s 0 (p + outSize * O) =
+      joined-part s 0 O (outBytes ws) (λ i. p + outSize * i) (λ i. outSize) (λ i l. omega arith) out-again in
+      let z : p + outSize * 0 ≡ p = omega arith in
+      let e : p + outSize * O ≡ length s = omega (arith, out-ends form s f O (omega arith), f .rest) in
       rw (gates-word, outputs-word, head-again, g, ← z, o) (part-all s _ e)

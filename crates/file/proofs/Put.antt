@@ -4,47 +4,37 @@ use mathlib.Core.Path.{_≡_, refl, sym, _∙_, ap}
 use mathlib.Core.List.{List, [], _∷_, _++_}
 use native.Mathlib.Omega.{arith}
 use native.Mathlib.Numerals.{add-one}
-use native.Mathlib.Nat.{add-zero, zero-add}
 use lib.ListN.{length, getD, set, length-append}
-use lib.Seq.{sets, sets-eq}
-use borrow.Author.Tests.{lt-ltb, le-ltb}
-use Rattle.answer.specs.declared.Answer.{Answer}
-use Rattle.answer.specs.declared.Answer.the-variants.{Done, Refused}
+use lib.Seq.{sets}
 use Rattle.answer.specs.Fronts.{over}
-use Rattle.answer.proofs.Rows.{go, refuse-yes, refuse-not}
+use Rattle.answer.proofs.Over.{over-none, over-sets}
+use Rattle.netlist.specs.declared.counts.Counts.{Counts}
 use Rattle.netlist.specs.declared.gate.Gate.{Gate}
 use Rattle.netlist.specs.declared.gate.Gate.the-variants.{Zero, One, Not, Xor, And, Mux}
 use Rattle.netlist.specs.Gates.{gateWords}
-use Rattle.netlist.specs.Words.{gatePlace, gatesOf, outputsOf, gateAt}
-use Rattle.netlist.specs.Check.{netAnswer}
+use Rattle.netlist.specs.Words.{headerWords, gatePlace, header, countsOf, gatesOf, wordCount, gateAt}
+use Rattle.netlist.proofs.Puts.{sets-append}
 use Rattle.netlist.specs.Sound.{Sound}
 use Rattle.records.specs.declared.form.Form.{Form}
 use Rattle.records.specs.declared.Quad.{Quad}
 use Rattle.records.specs.Bytes.{wordAt, joined}
-use Rattle.records.specs.File.{byteN, byteG, byteO, markOf, widthOf, inputsIn, gatesIn, outputsIn, startOf, fourIn, outWord, wordsIn}
-use Rattle.records.specs.Quads.{quadIn}
+use Rattle.records.specs.File.{byteN, byteG, byteO, markOf, widthOf, headSize, outSize, countsIn, startOf, fourIn, outWord, wordsIn}
+use Rattle.records.specs.Whole.{quadIn}
 use Rattle.records.proofs.Joined.{joined-length}
 use Rattle.records.proofs.Found.{fours-length, words-length}
 use Rattle.file.specs.Bytes.{little}
-use Rattle.file.specs.File.{wordsBytes, headBytes, gateBytes, outBytes, fileOf, writeAnswer}
-use Rattle.file.specs.Steps.{Room}
+use Rattle.file.specs.File.{wordsBytes, headBytes, gateBytes, outBytes, fileOf}
+use Rattle.file.specs.Inner.{Room}
 use Rattle.file.proofs.Joined.{little-length}
 use Rattle.file.proofs.Written.{wordsBytes-length, gate-length, out-length, file-length}
 
 -- ---- stores that follow one another
 
-sets-join : (a l b : List ℕ) (i : ℕ) → sets (sets l i a) (i + length a) b ≡ sets l i (a ++ b)
-sets-join [] l b i = rw add-zero
-sets-join (x ∷ a) l b i =
-    let e : i + suc (length a) ≡ suc i + length a = omega arith in
-    rw e (sets-join a (set l i x) b (suc i))
-
 sets-at : (a l b : List ℕ) (i k : ℕ) → k ≡ i + length a → sets (sets l i a) k b ≡ sets l i (a ++ b)
-sets-at a l b i k e = rw e (sets-join a l b i)
+sets-at a l b i k e = rw e (sym (sets-append a l b i))
 
 sets-over : (w l : List ℕ) → length w ≤ length l → sets l 0 w ≡ over w l
-unfolding over
-sets-over w l h = sets-eq w l 0 (rw (zero-add (length w)) h) ∙ rw (zero-add (length w))
+sets-over w l h = ap (λ x. sets x 0 w) (sym (over-none l)) ∙ over-sets [] w l 0 refl (omega arith)
 
 pub joined-none : (f : ℕ → List ℕ) (l : List ℕ) (at : ℕ) → l ≡ sets l at (joined 0 f)
 unfolding joined
@@ -93,25 +83,26 @@ pub out-put : (net l : List ℕ) (p o G : ℕ) {m1 m2 : List ℕ} → m1 ≡ set
 unfolding outBytes
 out-put net l p o G a b e = rw (← e, b, a) (sets-at (byteN ∷ byteO ∷ []) l (wordsBytes net (gatePlace G + o) 1) p (p + 2) refl)
 
-pub outs-next : (net l : List ℕ) (from o : ℕ) {m n : List ℕ} → m ≡ sets l from (joined o (outBytes net)) → n ≡ sets m (from + 6 * o) (outBytes net o)
+pub outs-next : (net l : List ℕ) (from o : ℕ) {m n : List ℕ} → m ≡ sets l from (joined o (outBytes net)) → n ≡ sets m (from + outSize * o) (outBytes net o)
     → n ≡ sets l from (joined (o + 1) (outBytes net))
 outs-next net l from o e h =
-    put-next (outBytes net) l from o e (ap (λ k. from + k) (sym (joined-length o 6 (outBytes net) (out-length net)))) h
+    put-next (outBytes net) l from o e (ap (λ k. from + k) (sym (joined-length o outSize (outBytes net) (out-length net)))) h
 
-pub file-put : (form : Form) (net l : List ℕ) {m1 m2 m3 m4 : List ℕ} {letter G O at : ℕ} → length (fileOf form net) ≤ length l → letter ≡ markOf form
-    → G ≡ gatesOf net → O ≡ outputsOf net → m1 ≡ sets l 0 (byteN ∷ letter ∷ []) → m2 ≡ sets m1 2 (wordsBytes net 0 3)
-    → m3 ≡ sets m2 14 (joined G (gateBytes form net)) → at ≡ 14 + length (joined G (gateBytes form net))
-    → m4 ≡ sets m3 at (joined O (outBytes net)) → m4 ≡ over (fileOf form net) l
+pub file-put : (form : Form) (net l : List ℕ) (c : Counts) {m1 m2 m3 m4 : List ℕ} {letter at : ℕ} → length (fileOf form net) ≤ length l → letter ≡ markOf form
+    → c ≡ countsOf net → m1 ≡ sets l 0 (byteN ∷ letter ∷ []) → m2 ≡ sets m1 2 (wordsBytes net 0 headerWords)
+    → m3 ≡ sets m2 headSize (joined (c .gates) (gateBytes form net)) → at ≡ headSize + length (joined (c .gates) (gateBytes form net))
+    → m4 ≡ sets m3 at (joined (c .outputs) (outBytes net)) → m4 ≡ over (fileOf form net) l
 unfolding fileOf headBytes
-file-put form net l {m1} {m2} {m3} {m4} {letter} {G} {O} {at} h k g o a b c e d =
-    let hd : List ℕ = byteN ∷ letter ∷ wordsBytes net 0 3 in
-    let gs = joined G (gateBytes form net) in
-    let os = joined O (outBytes net) in
-    let lh : length hd ≡ 14 = ap (λ n. suc (suc n)) (wordsBytes-length net 0 3) in
-    let e1 : m2 ≡ sets l 0 hd = b ∙ ap (λ x. sets x 2 (wordsBytes net 0 3)) a ∙ sets-at (byteN ∷ letter ∷ []) l (wordsBytes net 0 3) 0 2 refl in
-    let e2 : m3 ≡ sets l 0 (hd ++ gs) = c ∙ ap (λ x. sets x 14 gs) e1 ∙ sets-at hd l gs 0 14 (omega arith) in
+file-put form net l n {m1} {m2} {m3} {m4} {letter} {at} h k g a b c e d =
+    let counts = wordsBytes net 0 headerWords in
+    let hd : List ℕ = byteN ∷ letter ∷ counts in
+    let gs = joined (n .gates) (gateBytes form net) in
+    let os = joined (n .outputs) (outBytes net) in
+    let lh : length hd ≡ headSize = ap (λ n. suc (suc n)) (wordsBytes-length net 0 headerWords) in
+    let e1 : m2 ≡ sets l 0 hd = b ∙ ap (λ x. sets x 2 counts) a ∙ sets-at (byteN ∷ letter ∷ []) l counts 0 2 refl in
+    let e2 : m3 ≡ sets l 0 (hd ++ gs) = c ∙ ap (λ x. sets x headSize gs) e1 ∙ sets-at hd l gs 0 headSize (omega arith) in
     let e3 : m4 ≡ sets l 0 (hd ++ gs ++ os) = d ∙ ap (λ x. sets x at os) e2 ∙ sets-at (hd ++ gs) l os 0 at (omega (arith, length-append hd gs)) in
-    let e4 : hd ++ gs ++ os ≡ fileOf form net = rw (k, g, o) in
+    let e4 : hd ++ gs ++ os ≡ fileOf form net = rw (k, g) in
     e3 ∙ ap (λ x. sets l 0 x) e4 ∙ sets-over (fileOf form net) l h
 
 -- a gate's kind is a byte
@@ -132,40 +123,32 @@ room-for form net room s h =
       space = omega (arith, file-length form net);
     }
 
-module _ (form : Form) (net : List ℕ) (room : ℕ) {r : Answer} {n : ℕ} (e : r ≡ netAnswer 1 net) (d : r ≡ Done) (z : n ≡ length (fileOf form net)) where
-  pub write-short : room < n → Refused 8 2 room ≡ writeAnswer form net room
-  unfolding writeAnswer
-  write-short h = go e d (refuse-yes 8 2 room (rw (← z) (lt-ltb _ _ h)))
-
-  pub write-done : n ≤ room → Done ≡ writeAnswer form net room
-  unfolding writeAnswer
-  write-done h = go e d (sym (refuse-not 8 2 room (rw (← z) (le-ltb _ _ h))))
-
 -- ---- words
 
 pub quad-put : (form : Form) (s l : List ℕ) (g : ℕ) {m n : List ℕ} {at : ℕ} {q : Quad} → q ≡ quadIn form s at → at ≡ startOf form s g
-    → m ≡ sets l 3 (joined g (fourIn form s)) → n ≡ sets m (gatePlace g) (q .kind ∷ q .a ∷ q .b ∷ q .c ∷ []) → n ≡ sets l 3 (joined (g + 1) (fourIn form s))
+    → m ≡ sets l headerWords (joined g (fourIn form s)) → n ≡ sets m (gatePlace g) (q .kind ∷ q .a ∷ q .b ∷ q .c ∷ [])
+    → n ≡ sets l headerWords (joined (g + 1) (fourIn form s))
 unfolding fourIn quadIn
 quad-put form s l g {m} {n} {at} {q} d e a b =
-    put-next (fourIn form s) l 3 g a (ap (λ k. 3 + k) (sym (fours-length form s g))) (rw (← e) (rw d at b))
+    put-next (fourIn form s) l headerWords g a (ap (λ k. headerWords + k) (sym (fours-length form s g))) (rw (← e) (rw d at b))
 
-pub outs-put : (s l : List ℕ) (from base o : ℕ) {m n : List ℕ} {x : ℕ} → x ≡ wordAt s (from + 6 * o + 2) → m ≡ sets l base (joined o (outWord s from))
+pub outs-put : (s l : List ℕ) (from base o : ℕ) {m n : List ℕ} {x : ℕ} → x ≡ wordAt s (from + outSize * o + 2) → m ≡ sets l base (joined o (outWord s from))
     → n ≡ set m (base + o) x → n ≡ sets l base (joined (o + 1) (outWord s from))
 unfolding outWord
 outs-put s l from base o e a b =
     let z : o ≡ 1 * o = omega arith in
     put-next (outWord s from) l base o a (ap (λ k. base + k) (z ∙ sym (joined-length o 1 (outWord s from) (λ i. refl)))) (rw (← e) b)
 
-pub words-put : (form : Form) (s l : List ℕ) {m1 m2 m3 : List ℕ} {I G O from : ℕ} → gatePlace (gatesIn s) + outputsIn s ≤ length l → I ≡ inputsIn s
-    → G ≡ gatesIn s → O ≡ outputsIn s → m1 ≡ sets l 0 (I ∷ G ∷ O ∷ []) → m2 ≡ sets m1 3 (joined G (fourIn form s)) → from ≡ startOf form s G
-    → m3 ≡ sets m2 (gatePlace G) (joined O (outWord s from)) → m3 ≡ over (wordsIn form s) l
+pub words-put : (form : Form) (s l : List ℕ) (c : Counts) {m1 m2 m3 : List ℕ} {from : ℕ} → wordCount (countsIn s) ≤ length l → c ≡ countsIn s
+    → m1 ≡ sets l 0 (header c) → m2 ≡ sets m1 headerWords (joined (c .gates) (fourIn form s)) → from ≡ startOf form s (c .gates)
+    → m3 ≡ sets m2 (gatePlace (c .gates)) (joined (c .outputs) (outWord s from)) → m3 ≡ over (wordsIn form s) l
 unfolding wordsIn
-words-put form s l {m1} {m2} {m3} {I} {G} {O} {from} h i g o a b e d =
-    let hd : List ℕ = I ∷ G ∷ O ∷ [] in
-    let gs = joined G (fourIn form s) in
-    let os = joined O (outWord s from) in
-    let e1 : m2 ≡ sets l 0 (hd ++ gs) = b ∙ ap (λ x. sets x 3 gs) a ∙ sets-at hd l gs 0 3 refl in
-    let e2 : m3 ≡ sets l 0 (hd ++ gs ++ os) =
-    d ∙ ap (λ x. sets x (gatePlace G) os) e1 ∙ sets-at (hd ++ gs) l os 0 (gatePlace G) (omega (arith, length-append hd gs, fours-length form s G)) in
-    let e3 : hd ++ gs ++ os ≡ wordsIn form s = rw (e, i, g, o) in
+words-put form s l c {m1} {m2} {m3} {from} h g a b e d =
+    let at = gatePlace (c .gates) in
+    let gs = joined (c .gates) (fourIn form s) in
+    let os = joined (c .outputs) (outWord s from) in
+    let e1 : m2 ≡ sets l 0 (header c ++ gs) = b ∙ ap (λ x. sets x headerWords gs) a ∙ sets-at (header c) l gs 0 headerWords refl in
+    let e2 : m3 ≡ sets l 0 (header c ++ gs ++ os) =
+    d ∙ ap (λ x. sets x at os) e1 ∙ sets-at (header c ++ gs) l os 0 at (omega (arith, length-append (header c) gs, fours-length form s (c .gates))) in
+    let e3 : header c ++ gs ++ os ≡ wordsIn form s = rw (e, g) in
     e2 ∙ ap (λ x. sets l 0 x) e3 ∙ sets-over (wordsIn form s) l (omega (arith, words-length form s))

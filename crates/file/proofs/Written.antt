@@ -12,8 +12,9 @@ use borrow.Author.Tests.{ltb-true, le-ltb}
 use Rattle.answer.specs.declared.Answer.the-variants.{Done}
 use Rattle.answer.specs.Choose.{choose}
 use Rattle.answer.proofs.Rows.{then-done, both, refuse-not, each-done}
+use Rattle.netlist.specs.declared.counts.Counts.{Counts}
 use Rattle.netlist.specs.Gates.{gateWords, gateOf}
-use Rattle.netlist.specs.Words.{gatePlace, inputsOf, gatesOf, outputsOf}
+use Rattle.netlist.specs.Words.{headerWords, gateStride, gatePlace, header, countsOf, inputsOf, gatesOf, outputsOf, wordCount}
 use Rattle.netlist.specs.Check.{countsAnswer, wiresAnswer, netAnswer}
 use Rattle.netlist.specs.Sound.{Limits, Sound}
 use Rattle.netlist.proofs.Gates.{operands-low}
@@ -21,7 +22,7 @@ use Rattle.netlist.proofs.Accepted.{sound-done}
 use Rattle.records.specs.declared.form.Form.{Form}
 use Rattle.records.specs.declared.form.Form.the-variants.{Full}
 use Rattle.records.specs.Bytes.{wordAt, joined}
-use Rattle.records.specs.File.{byteN, byteG, byteO, markOf, widthOf, inputsIn, gatesIn, outputsIn, sizeAt, startOf, operandAt, fourIn, outWord, wordsIn, recordAnswer, gateRecord, outRecord, outsAnswer, recordsAnswer, checkAnswer}
+use Rattle.records.specs.File.{byteN, byteG, byteO, markOf, widthOf, headSize, outSize, countsIn, gatesIn, outputsIn, sizeAt, startOf, operandAt, fourIn, outWord, wordsIn, recordAnswer, gateRecord, outRecord, outsAnswer, recordsAnswer, headAnswer, bodyAnswer, checkAnswer}
 use Rattle.records.proofs.Joined.{joined-at, joined-in, joined-length}
 use Rattle.records.proofs.Judged.{begins-yes}
 use Rattle.file.specs.Bytes.{little}
@@ -46,25 +47,25 @@ pub wordsBytes-length : (net : List ℕ) (p n : ℕ) → length (wordsBytes net 
 unfolding wordsBytes
 wordsBytes-length net p n = joined-length n 4 _ (λ i. little-length (getD net (p + i) 0))
 
-head-length : (form : Form) (net : List ℕ) → length (headBytes form net) ≡ 14
+head-length : (form : Form) (net : List ℕ) → length (headBytes form net) ≡ headSize
 unfolding headBytes
-head-length form net = ap (λ k. suc (suc k)) (wordsBytes-length net 0 3)
+head-length form net = ap (λ k. suc (suc k)) (wordsBytes-length net 0 headerWords)
 
 pub gate-length : (form : Form) (net : List ℕ) (g : ℕ) → length (gateBytes form net g) ≡ 3 + 4 * widthOf form (getD net (gatePlace g) 0)
 unfolding gateBytes
 gate-length form net g = omega (arith, wordsBytes-length net (gatePlace g + 1) (widthOf form (getD net (gatePlace g) 0)))
 
-pub out-length : (net : List ℕ) (o : ℕ) → length (outBytes net o) ≡ 6
+pub out-length : (net : List ℕ) (o : ℕ) → length (outBytes net o) ≡ outSize
 unfolding outBytes
 out-length net o = ap (λ k. suc (suc k)) (wordsBytes-length net (gatePlace (gatesOf net) + o) 1)
 
-pub file-length : (form : Form) (net : List ℕ) → length (fileOf form net) ≡ 14 + length (joined (gatesOf net) (gateBytes form net)) + 6 * outputsOf net
+pub file-length : (form : Form) (net : List ℕ) → length (fileOf form net) ≡ headSize + length (joined (gatesOf net) (gateBytes form net)) + outSize * outputsOf net
 unfolding fileOf
 file-length form net =
     let h = headBytes form net in
     let a = joined (gatesOf net) (gateBytes form net) in
     length-append (h ++ a) (joined (outputsOf net) (outBytes net))
-    ∙ omega (arith, length-append h a, head-length form net, joined-length (outputsOf net) 6 (outBytes net) (out-length net))
+    ∙ omega (arith, length-append h a, head-length form net, joined-length (outputsOf net) outSize (outBytes net) (out-length net))
 
 -- ---- words in bytes
 
@@ -84,7 +85,7 @@ words-in s net q p n j h l b =
     ∙ ap (λ m. getD (joined n f) (m + i) 0) (sym e)
     ∙ joined-in n j f i l (rw (little-length (getD net (p + j) 0)) k))
 
-head-part : (ws : List ℕ) → inputsOf ws ∷ gatesOf ws ∷ outputsOf ws ∷ [] ≡ part ws 0 3
+head-part : (ws : List ℕ) → header (countsOf ws) ≡ part ws 0 headerWords
 unfolding part
 head-part ws = refl
 
@@ -92,12 +93,12 @@ record-done : (s : List ℕ) (p letter size : ℕ) → p + size ≤ length s →
 unfolding recordAnswer
 record-done s p letter size h a b = refuse-not _ _ _ (ap not (begins-yes s p letter size h a b))
 
-pub limits-done : (l I G O : ℕ) → Limits I G O → countsAnswer l I G O ≡ Done
-limits-done l I G O s =
+pub limits-done : (l : ℕ) (c : Counts) → Limits c → countsAnswer l c ≡ Done
+limits-done l c s =
     both (refuse-not _ _ _ (le-ltb _ _ (s .inputs)))
     (both (refuse-not _ _ _ (le-ltb _ _ (s .gates))) (refuse-not _ _ _ (le-ltb _ _ (s .outputs))))
 
-wires-done : (l : ℕ) (ws : List ℕ) → Sound ws → wiresAnswer l ws (inputsOf ws) (gatesOf ws) (outputsOf ws) ≡ Done
+wires-done : (l : ℕ) (ws : List ℕ) → Sound ws → wiresAnswer l ws (countsOf ws) ≡ Done
 unfolding netAnswer
 wires-done l ws s = then-done _ _ (then-done _ _ (then-done _ _ (sound-done l ws s)))
 
@@ -109,36 +110,36 @@ module _ (form : Form) (ws : List ℕ) where
   unfolding fileOf
   file-parts = append-assoc (headBytes form ws) (joined (gatesOf ws) (gateBytes form ws)) (joined (outputsOf ws) (outBytes ws))
 
-  head-in : (i : ℕ) → i < 14 → getD (fileOf form ws) i 0 ≡ getD (headBytes form ws) i 0
+  head-in : (i : ℕ) → i < headSize → getD (fileOf form ws) i 0 ≡ getD (headBytes form ws) i 0
   head-in i h = rw file-parts (List·getD-append (headBytes form ws) _ 0 i (rw (head-length form ws) h))
 
   -- byte i of gate g's record
   gate-in : (g i : ℕ) → g < gatesOf ws → i < length (gateBytes form ws g)
-      → getD (fileOf form ws) (14 + length (joined g (gateBytes form ws)) + i) 0 ≡ getD (gateBytes form ws g) i 0
+      → getD (fileOf form ws) (headSize + length (joined g (gateBytes form ws)) + i) 0 ≡ getD (gateBytes form ws g) i 0
   gate-in g i h k =
       let m = length (joined g (gateBytes form ws)) in
-      let e : 14 + m + i ≡ length (headBytes form ws) + (m + i) = omega (arith, head-length form ws) in
+      let e : headSize + m + i ≡ length (headBytes form ws) + (m + i) = omega (arith, head-length form ws) in
       rw (file-parts, e, getD-append-add (headBytes form ws)) (joined-at (gatesOf ws) g (gateBytes form ws) _ i h k)
 
   -- byte i of output o's record
-  out-in : (o i : ℕ) → o < outputsOf ws → i < 6
-      → getD (fileOf form ws) (14 + length (joined (gatesOf ws) (gateBytes form ws)) + 6 * o + i) 0 ≡ getD (outBytes ws o) i 0
+  out-in : (o i : ℕ) → o < outputsOf ws → i < outSize
+      → getD (fileOf form ws) (headSize + length (joined (gatesOf ws) (gateBytes form ws)) + outSize * o + i) 0 ≡ getD (outBytes ws o) i 0
   unfolding fileOf
   out-in o i h k =
       let a = headBytes form ws ++ joined (gatesOf ws) (gateBytes form ws) in
       let m = joined o (outBytes ws) in
-      let la : length a ≡ 14 + length (joined (gatesOf ws) (gateBytes form ws)) = length-append (headBytes form ws) _ ∙ rw (head-length form ws) in
-      let lm : length m ≡ 6 * o = joined-length o 6 (outBytes ws) (out-length ws) in
-      let e : 14 + length (joined (gatesOf ws) (gateBytes form ws)) + 6 * o + i ≡ length a + (length m + i) = omega arith in
+      let la : length a ≡ headSize + length (joined (gatesOf ws) (gateBytes form ws)) = length-append (headBytes form ws) _ ∙ rw (head-length form ws) in
+      let lm : length m ≡ outSize * o = joined-length o outSize (outBytes ws) (out-length ws) in
+      let e : headSize + length (joined (gatesOf ws) (gateBytes form ws)) + outSize * o + i ≡ length a + (length m + i) = omega arith in
       rw (e, getD-append-add a) (joined-in (outputsOf ws) o (outBytes ws) i h (rw (out-length ws o) k))
 
-  kind-at : (g : ℕ) → g < gatesOf ws → getD (fileOf form ws) (14 + length (joined g (gateBytes form ws)) + 2) 0 ≡ getD ws (gatePlace g) 0
+  kind-at : (g : ℕ) → g < gatesOf ws → getD (fileOf form ws) (headSize + length (joined g (gateBytes form ws)) + 2) 0 ≡ getD ws (gatePlace g) 0
   unfolding gateBytes
   kind-at g h = gate-in g 2 h (rw (gate-length form ws g) (omega arith))
 
   gate-mark : (g : ℕ) → g < gatesOf ws →
-      (getD (fileOf form ws) (14 + length (joined g (gateBytes form ws))) 0 ≡ byteN)
-      × (getD (fileOf form ws) (14 + length (joined g (gateBytes form ws)) + 1) 0 ≡ byteG)
+      (getD (fileOf form ws) (headSize + length (joined g (gateBytes form ws))) 0 ≡ byteN)
+      × (getD (fileOf form ws) (headSize + length (joined g (gateBytes form ws)) + 1) 0 ≡ byteG)
   unfolding gateBytes
   gate-mark g h = (
     rw add-zero at (gate-in g 0 h (rw (gate-length form ws g) (omega arith))),
@@ -146,13 +147,13 @@ module _ (form : Form) (ws : List ℕ) where
   )
 
   out-mark : (o : ℕ) → o < outputsOf ws →
-      (getD (fileOf form ws) (14 + length (joined (gatesOf ws) (gateBytes form ws)) + 6 * o) 0 ≡ byteN)
-      × (getD (fileOf form ws) (14 + length (joined (gatesOf ws) (gateBytes form ws)) + 6 * o + 1) 0 ≡ byteO)
+      (getD (fileOf form ws) (headSize + length (joined (gatesOf ws) (gateBytes form ws)) + outSize * o) 0 ≡ byteN)
+      × (getD (fileOf form ws) (headSize + length (joined (gatesOf ws) (gateBytes form ws)) + outSize * o + 1) 0 ≡ byteO)
   unfolding outBytes
   out-mark o h = (rw add-zero at (out-in o 0 h (omega arith)), out-in o 1 h (omega arith))
 
   -- gate g's record begins after the records before it
-  starts : (g : ℕ) → g ≤ gatesOf ws → startOf form (fileOf form ws) g ≡ 14 + length (joined g (gateBytes form ws))
+  starts : (g : ℕ) → g ≤ gatesOf ws → startOf form (fileOf form ws) g ≡ headSize + length (joined g (gateBytes form ws))
   unfolding startOf sizeAt joined
   starts zero h = refl
   starts (suc g) h =
@@ -164,7 +165,7 @@ module _ (form : Form) (ws : List ℕ) where
 
   module _ (sound : Sound ws) where
     -- the words that are written as four bytes fit into them
-    count-fits : (j : ℕ) → j < 3 → getD ws (0 + j) 0 < 4294967296
+    count-fits : (j : ℕ) → j < headerWords → getD ws (0 + j) 0 < 4294967296
     count-fits zero h = omega (arith, sound .limits .inputs)
     count-fits (suc zero) h = omega (arith, sound .limits .gates)
     count-fits (suc (suc zero)) h = omega (arith, sound .limits .outputs)
@@ -186,16 +187,22 @@ module _ (form : Form) (ws : List ℕ) where
     out-fits : (o : ℕ) → o < outputsOf ws → getD ws (gatePlace (gatesOf ws) + o) 0 < 4294967296
     out-fits o h = omega (arith, sound .output o h, sound .limits .inputs, sound .limits .gates)
 
-    -- the three counts
-    count-in : (j : ℕ) → j < 3 → wordAt (fileOf form ws) (2 + 4 * j) ≡ getD ws (0 + j) 0
+    -- the counts
+    count-in : (j : ℕ) → j < headerWords → wordAt (fileOf form ws) (2 + 4 * j) ≡ getD ws (0 + j) 0
     unfolding headBytes
     count-in j h =
-        words-in (fileOf form ws) ws 2 0 3 j
-        (λ i k. head-in (2 + i) (omega arith) ∙ getD-append-add (byteN ∷ markOf form ∷ []) (wordsBytes ws 0 3) i 0)
+        words-in (fileOf form ws) ws 2 0 headerWords j
+        (λ i k. head-in (2 + i) (omega arith) ∙ getD-append-add (byteN ∷ markOf form ∷ []) (wordsBytes ws 0 headerWords) i 0)
         h (count-fits j h)
 
-    counts : (inputsIn (fileOf form ws) ≡ inputsOf ws) × (gatesIn (fileOf form ws) ≡ gatesOf ws) × (outputsIn (fileOf form ws) ≡ outputsOf ws)
-    counts = (count-in 0 (omega arith), count-in 1 (omega arith), count-in 2 (omega arith))
+    counts-back : countsIn (fileOf form ws) ≡ countsOf ws
+    counts-back = rw (count-in 0 (omega arith), count-in 1 (omega arith), count-in 2 (omega arith))
+
+    gates-back : gatesIn (fileOf form ws) ≡ gatesOf ws
+    gates-back = ap (λ c. c .gates) counts-back
+
+    outputs-back : outputsIn (fileOf form ws) ≡ outputsOf ws
+    outputs-back = ap (λ c. c .outputs) counts-back
 
     -- a written operand
     operand-in : (g j : ℕ) → g < gatesOf ws → j < widthOf form (getD ws (gatePlace g) 0)
@@ -205,17 +212,17 @@ module _ (form : Form) (ws : List ℕ) where
         let k = getD ws (gatePlace g) 0 in
         let three : j < 3 = omega (arith, width-most form k) in
         rw (starts g (omega arith))
-        (words-in (fileOf form ws) ws (14 + length (joined g (gateBytes form ws)) + 3) (gatePlace g + 1) (widthOf form k) j
-        (λ i m. rw (add-assoc (14 + length (joined g (gateBytes form ws))) 3 i)
+        (words-in (fileOf form ws) ws (headSize + length (joined g (gateBytes form ws)) + 3) (gatePlace g + 1) (widthOf form k) j
+        (λ i m. rw (add-assoc (headSize + length (joined g (gateBytes form ws))) 3 i)
         (gate-in g (3 + i) h (rw (gate-length form ws g) (omega arith))
         ∙ getD-append-add (byteN ∷ byteG ∷ k ∷ []) (wordsBytes ws (gatePlace g + 1) (widthOf form k)) i 0))
         l (operand-fits g j h three))
 
     out-at : (o : ℕ) → o < outputsOf ws
-        → wordAt (fileOf form ws) (14 + length (joined (gatesOf ws) (gateBytes form ws)) + 6 * o + 2) ≡ getD ws (gatePlace (gatesOf ws) + o) 0
+        → wordAt (fileOf form ws) (headSize + length (joined (gatesOf ws) (gateBytes form ws)) + outSize * o + 2) ≡ getD ws (gatePlace (gatesOf ws) + o) 0
     unfolding outBytes
     out-at o h =
-        let q = 14 + length (joined (gatesOf ws) (gateBytes form ws)) + 6 * o in
+        let q = headSize + length (joined (gatesOf ws) (gateBytes form ws)) + outSize * o in
         let fit : getD ws (gatePlace (gatesOf ws) + o + 0) 0 < 4294967296 = rw add-zero (out-fits o h) in
         simp add-zero at
         (words-in (fileOf form ws) ws (q + 2) (gatePlace (gatesOf ws) + o) 1 0
@@ -228,7 +235,7 @@ module _ (form : Form) (ws : List ℕ) where
     unfolding operandAt
     operand-is g j h = rw (kind-in g h) (choose-same _ _ _ (λ t. operand-in g j h (ltb-true _ _ t)))
 
-    gate-back : (g : ℕ) → g < gatesOf ws → fourIn form (fileOf form ws) g ≡ part ws (0 + gatePlace g) 4
+    gate-back : (g : ℕ) → g < gatesOf ws → fourIn form (fileOf form ws) g ≡ part ws (0 + gatePlace g) gateStride
     unfolding fourIn part
     gate-back g h =
         let p = gatePlace g in
@@ -241,7 +248,7 @@ module _ (form : Form) (ws : List ℕ) where
     unfolding outWord part
     out-back o h =
         let e : 0 + (gatePlace (gatesOf ws) + 1 * o) + 0 ≡ gatePlace (gatesOf ws) + o = omega arith in
-        rw (counts .1, starts (gatesOf ws) (omega arith), e, out-at o h)
+        rw (gates-back, starts (gatesOf ws) (omega arith), e, out-at o h)
 
     pub words-back : wordsIn form (fileOf form ws) ≡ ws
     unfolding wordsIn
@@ -250,14 +257,14 @@ module _ (form : Form) (ws : List ℕ) where
         let G = gatesOf ws in
         let O = outputsOf ws in
         let outs = outWord s (startOf form s (gatesIn s)) in
-        let h : inputsIn s ∷ gatesIn s ∷ outputsIn s ∷ [] ≡ part ws 0 3 = rw (counts .0, counts .1, counts .2) (head-part ws) in
-        let g : part ws 0 (3 + 4 * 0) ++ joined G (fourIn form s) ≡ part ws 0 (3 + 4 * G) =
-        joined-part ws 0 G (fourIn form s) gatePlace (λ i. 4) (λ i l. omega arith) gate-back in
-        let o : part ws 0 (3 + 4 * G + 1 * 0) ++ joined O outs ≡ part ws 0 (3 + 4 * G + 1 * O) =
-        joined-part ws 0 O outs (λ i. 3 + 4 * G + 1 * i) (λ i. 1) (λ i l. omega arith) out-back in
-        let z : 3 + 4 * G + 1 * 0 ≡ 3 + 4 * G = omega arith in
-        ap₂ _++_ (ap₂ _++_ h (ap (λ n. joined n (fourIn form s)) (counts .1))) (ap (λ n. joined n outs) (counts .2))
-        ∙ rw (g, ← z, o) (part-all ws (3 + 4 * G + 1 * O) (omega (arith, sound .size)))
+        let h : header (countsIn s) ≡ part ws 0 headerWords = ap header counts-back ∙ head-part ws in
+        let g : part ws 0 (gatePlace 0) ++ joined G (fourIn form s) ≡ part ws 0 (gatePlace G) =
+        joined-part ws 0 G (fourIn form s) gatePlace (λ i. gateStride) (λ i l. omega arith) gate-back in
+        let o : part ws 0 (gatePlace G + 1 * 0) ++ joined O outs ≡ part ws 0 (gatePlace G + 1 * O) =
+        joined-part ws 0 O outs (λ i. gatePlace G + 1 * i) (λ i. 1) (λ i l. omega arith) out-back in
+        let z : gatePlace G + 1 * 0 ≡ gatePlace G = omega arith in
+        ap₂ _++_ (ap₂ _++_ h (ap (λ n. joined n (fourIn form s)) (gates-back))) (ap (λ n. joined n outs) (outputs-back))
+        ∙ rw (g, ← z, o) (part-all ws (gatePlace G + 1 * O) (omega (arith, sound .size)))
 
     gate-done : (g : ℕ) → g < gatesOf ws → gateRecord form (fileOf form ws) g ≡ Done
     unfolding gateRecord sizeAt
@@ -267,28 +274,27 @@ module _ (form : Form) (ws : List ℕ) where
         (omega (arith, file-length form ws, joined-most (gatesOf ws) g (gateBytes form ws) h, gate-length form ws g))
         (gate-mark g h .0) (gate-mark g h .1))
 
-    out-done : (o : ℕ) → o < outputsOf ws → outRecord (fileOf form ws) (14 + length (joined (gatesOf ws) (gateBytes form ws))) o ≡ Done
+    out-done : (o : ℕ) → o < outputsOf ws → outRecord (fileOf form ws) (headSize + length (joined (gatesOf ws) (gateBytes form ws))) o ≡ Done
     unfolding outRecord
     out-done o h = record-done (fileOf form ws) _ byteO _ (omega (arith, file-length form ws)) (out-mark o h .0) (out-mark o h .1)
 
     records-done : recordsAnswer form (fileOf form ws) ≡ Done
     unfolding recordsAnswer outsAnswer
     records-done =
-        let h : length (fileOf form ws) ≤ 14 + length (joined (gatesOf ws) (gateBytes form ws)) + 6 * outputsOf ws = omega (arith, file-length form ws) in
-        rw (counts .1, counts .2, starts (gatesOf ws) (omega arith))
+        let h : length (fileOf form ws) ≤ headSize + length (joined (gatesOf ws) (gateBytes form ws)) + outSize * outputsOf ws = omega (arith, file-length form ws) in
+        rw (gates-back, outputs-back, starts (gatesOf ws) (omega arith))
         (both (each-done _ _ gate-done) (both (each-done _ _ out-done) (refuse-not _ _ _ (le-ltb _ _ h))))
 
-    head-done : recordAnswer (fileOf form ws) 0 (markOf form) 14 ≡ Done
+    head-done : recordAnswer (fileOf form ws) 0 (markOf form) headSize ≡ Done
     unfolding headBytes
-    head-done = record-done (fileOf form ws) 0 _ 14 (omega (arith, file-length form ws)) (head-in 0 (omega arith)) (head-in 1 (omega arith))
+    head-done = record-done (fileOf form ws) 0 _ headSize (omega (arith, file-length form ws)) (head-in 0 (omega arith)) (head-in 1 (omega arith))
 
     pub check-written : checkAnswer form (fileOf form ws) ≡ Done
-    unfolding checkAnswer
+    unfolding checkAnswer headAnswer bodyAnswer
     check-written =
-        both head-done
-        (rw (words-back, counts .0, counts .1, counts .2)
-        (both (limits-done 1 _ _ _ (sound .limits)) (both records-done (wires-done 1 ws sound))))
+        both (both head-done (ap (countsAnswer 1) counts-back ∙ limits-done 1 _ (sound .limits)))
+        (both records-done (ap₂ (wiresAnswer 1) words-back counts-back ∙ wires-done 1 ws sound))
 
     -- the room that reading asks for is the netlist's length
-    pub room-written : gatePlace (gatesIn (fileOf form ws)) + outputsIn (fileOf form ws) ≡ length ws
-    room-written = rw (counts .1, counts .2) (sym (sound .size))
+    pub room-written : wordCount (countsIn (fileOf form ws)) ≡ length ws
+    room-written = ap wordCount counts-back ∙ sym (sound .size)

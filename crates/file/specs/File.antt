@@ -5,10 +5,10 @@ use Prim.Native.Nat.{ℕ, _+_}
 use mathlib.Core.Path.{_≡_}
 use mathlib.Core.List.{List, _∷_, _++_}
 use lib.ListN.{length, getD}
-use lib.Dec.{ltb}
 use Rattle.answer.specs.declared.Answer.{Answer}
-use Rattle.answer.specs.Answers.{_▹_, refuse}
+use Rattle.answer.specs.Answers.{_▹_}
 use Rattle.answer.specs.Fronts.{left}
+use Rattle.answer.specs.Judges.{roomAnswer}
 use Rattle.netlist.specs.Words.{headerWords, gatePlace, gatesOf, outputsOf}
 use Rattle.netlist.specs.Check.{netAnswer}
 use Rattle.records.specs.declared.form.Form.{Form}
@@ -42,7 +42,7 @@ fileOf form net = headBytes form net ++ joined (gatesOf net) (gateBytes form net
 
 -- 9, 8, where n bytes are lent for the result
 unfoldable pub writeAnswer : Form → List ℕ → ℕ → Answer
-writeAnswer form net n = netAnswer 1 net ▹ refuse 8 2 n (ltb n (length (fileOf form net)))
+writeAnswer form net n = netAnswer 1 net ▹ roomAnswer 2 n (length (fileOf form net))
 
 -- what a call that was lent source and result answers, and what it leaves in the last
 pub record ReadAs (form : Form) (source result : List ℕ) (r : Answer) (result′ : List ℕ) : Type 0 where

@@ -1,3 +1,3 @@
 pub mod Bytes
 pub mod File
-pub mod Steps
+pub mod Inner

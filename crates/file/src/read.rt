@@ -6,31 +6,21 @@ use records::Quad;
 use records::form::Form;
 use records::form::HEAD_SIZE;
 use records::form::OUT_SIZE;
-use records::word_at;
 ghost use mathlib.Core.Path.{_≡_};
 ghost use mathlib.Core.List.{[], _∷_};
 ghost use Prim.Native.Nat.{_+_, _*_, _≤_};
 ghost use lib.ListN.{length};
 ghost use lib.Seq.{sets};
 ghost use Rattle.answer.specs.Fronts.{over};
-ghost use Rattle.netlist.specs.Words.{headerWords, gatePlace};
+ghost use Rattle.netlist.specs.Words.{headerWords, gateStride, gatePlace, wordCount};
 ghost use Rattle.netlist.specs.Check.{gateLimit};
 ghost use Rattle.records.specs.Bytes.{joined};
-ghost use Rattle.records.specs.File.{outSize, gatesIn, outputsIn, startOf, fourIn, outWord, wordsIn};
-ghost use Rattle.records.specs.Steps.{GatesThere, Framed};
+ghost use Rattle.records.specs.File.{outSize, countsIn, startOf, fourIn, outWord, wordsIn};
+ghost use Rattle.records.specs.Inner.{GatesThere, Framed};
 ghost use Rattle.file.specs.File.{ReadAs};
 
-fn put_counts(out: &mut [u32], inputs: u32, gates: u32, outputs: u32)
-    requires { ⌜ headerWords ≤ length (now out) ⌝ }
-    ensures { λ r. ⌜ now (out .exit) ≡ sets (now (out .entry)) 0 (inputs ∷ gates ∷ outputs ∷ []) ⌝ }
-{
-    out[0] = inputs;
-    out[1] = gates;
-    out[2] = outputs;
-}
-
 fn put_quad(out: &mut [u32], at: usize, q: Quad)
-    requires { ⌜ at + 4 ≤ length (now out) ⌝ }
+    requires { ⌜ at + gateStride ≤ length (now out) ⌝ }
     ensures { λ r. ⌜ now (out .exit) ≡ sets (now (out .entry)) at (q .kind ∷ q .a ∷ q .b ∷ q .c ∷ []) ⌝ }
 {
     out[at] = q.kind;
@@ -64,23 +54,22 @@ fn read_outs(s: &[u8], from: usize, outputs: u32, out: &mut [u32], base: usize)
     let mut o: u32 = 0;
     while o < outputs {
         let i = o as usize;
-        let x = word_at(s, from + OUT_SIZE * i + 2);
+        let x = records::word_at(s, from + OUT_SIZE * i + 2);
         out[base + i] = x;
         o += 1;
     }
 }
 
 fn read_words(s: &[u8], form: Form, out: &mut [u32])
-    requires { ⌜ Framed form (now s) × (gatePlace (gatesIn (now s)) + outputsIn (now s) ≤ length (now out)) ⌝ }
+    requires { ⌜ Framed form (now s) × (wordCount (countsIn (now s)) ≤ length (now out)) ⌝ }
     ensures { λ r. ⌜ now (out .exit) ≡ over (wordsIn form (now (s .entry))) (now (out .entry)) ⌝ }
 {
-    let inputs = word_at(s, 2);
-    let gates = word_at(s, 6);
-    let outputs = word_at(s, 10);
-    put_counts(out, inputs, gates, outputs);
+    let counts = records::counts_in(s);
+    let gates = counts.gates;
+    netlist::counts::put_header(out, counts);
     let from = read_gates(s, form, gates, out);
     let base = HEADER_WORDS + GATE_STRIDE * (gates as usize);
-    read_outs(s, from, outputs, out, base);
+    read_outs(s, from, counts.outputs, out, base);
 }
 
 pub(crate) fn read_form(source: &[u8], form: Form, result: &mut [u32]) -> Answer

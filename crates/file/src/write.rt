@@ -5,6 +5,8 @@ use crate::bytes::put_words;
 use answer::Answer;
 use netlist::GATE_STRIDE;
 use netlist::HEADER_WORDS;
+use netlist::counts::Counts;
+use netlist::counts::counts_of;
 use records::form::BYTE_G;
 use records::form::BYTE_O;
 use records::form::Form;
@@ -15,17 +17,17 @@ ghost use Prim.Native.Nat.{_+_, _*_, _<_, _≤_};
 ghost use lib.ListN.{length, getD};
 ghost use lib.Seq.{sets};
 ghost use Rattle.answer.specs.Fronts.{over};
-ghost use Rattle.netlist.specs.Words.{gatePlace, gatesOf, outputsOf};
-ghost use Rattle.netlist.specs.Check.{gateLimit, outputLimit};
-ghost use Rattle.netlist.specs.Sound.{Sound};
+ghost use Rattle.netlist.specs.Words.{gateStride, gatePlace, countsOf, wordCount};
+ghost use Rattle.netlist.specs.Check.{gateLimit};
+ghost use Rattle.netlist.specs.Sound.{Limits, Sound};
 ghost use Rattle.records.specs.Bytes.{joined};
 ghost use Rattle.records.specs.File.{headSize, outSize};
 ghost use Rattle.file.specs.File.{gateBytes, outBytes, fileOf, WrittenAs};
-ghost use Rattle.file.specs.Steps.{Room};
+ghost use Rattle.file.specs.Inner.{Room};
 
 // The record of gate g, and its size.
 fn put_gate(net: &[u32], form: Form, g: u32, out: &mut [u8], at: usize) -> usize
-    requires { ⌜ (g < gateLimit) × (gatePlace g + 4 ≤ length (now net)) × (getD (now net) (gatePlace g) 0 < 256) × (at + length (gateBytes form (now net) g) ≤ length (now out)) ⌝ }
+    requires { ⌜ (g < gateLimit) × (gatePlace g + gateStride ≤ length (now net)) × (getD (now net) (gatePlace g) 0 < 256) × (at + length (gateBytes form (now net) g) ≤ length (now out)) ⌝ }
     ensures { λ r. ⌜ (now (out .exit) ≡ sets (now (out .entry)) at (gateBytes form (now (net .entry)) g)) × (r ≡ length (gateBytes form (now (net .entry)) g)) ⌝ }
 {
     let i = HEADER_WORDS + GATE_STRIDE * (g as usize);
@@ -52,10 +54,12 @@ fn put_gates(net: &[u32], form: Form, gates: u32, out: &mut [u8]) -> usize
     at
 }
 
-fn put_outs(net: &[u32], gates: u32, outputs: u32, out: &mut [u8], from: usize)
-    requires { ⌜ (gates ≡ gatesOf (now net)) × (gates ≤ gateLimit) × (gatePlace gates + outputs ≤ length (now net)) × (from + outSize * outputs ≤ length (now out)) ⌝ }
-    ensures { λ r. ⌜ now (out .exit) ≡ sets (now (out .entry)) from (joined outputs (outBytes (now (net .entry)))) ⌝ }
+fn put_outs(net: &[u32], counts: Counts, out: &mut [u8], from: usize)
+    requires { ⌜ (counts ≡ countsOf (now net)) × Limits counts × (wordCount counts ≤ length (now net)) × (from + outSize * counts .outputs ≤ length (now out)) ⌝ }
+    ensures { λ r. ⌜ now (out .exit) ≡ sets (now (out .entry)) from (joined (counts .outputs) (outBytes (now (net .entry)))) ⌝ }
 {
+    let gates = counts.gates;
+    let outputs = counts.outputs;
     let base = HEADER_WORDS + GATE_STRIDE * (gates as usize);
     let mut o: u32 = 0;
     while o < outputs {
@@ -68,10 +72,12 @@ fn put_outs(net: &[u32], gates: u32, outputs: u32, out: &mut [u8], from: usize)
 }
 
 // The size of a netlist's file.
-fn file_size(net: &[u32], form: Form, gates: u32, outputs: u32) -> usize
-    requires { ⌜ (gates ≡ gatesOf (now net)) × (outputs ≡ outputsOf (now net)) × (gates ≤ gateLimit) × (outputs ≤ outputLimit) × (gatePlace gates ≤ length (now net)) ⌝ }
+fn file_size(net: &[u32], form: Form, counts: Counts) -> usize
+    requires { ⌜ (counts ≡ countsOf (now net)) × Limits counts × (wordCount counts ≤ length (now net)) ⌝ }
     ensures { λ r. ⌜ r ≡ length (fileOf form (now (net .entry))) ⌝ }
 {
+    let gates = counts.gates;
+    let outputs = counts.outputs;
     let mut g: u32 = 0;
     let mut at: usize = HEAD_SIZE;
     while g < gates {
@@ -87,13 +93,12 @@ fn put_file(net: &[u32], form: Form, out: &mut [u8])
     requires { ⌜ Sound (now net) × (length (fileOf form (now net)) ≤ length (now out)) ⌝ }
     ensures { λ r. ⌜ now (out .exit) ≡ over (fileOf form (now (net .entry))) (now (out .entry)) ⌝ }
 {
-    let gates = net[1];
-    let outputs = net[2];
+    let counts = counts_of(net);
     let letter = records::form::mark_of(form);
     put_mark(out, 0, letter);
     put_words(net, 0, HEADER_WORDS, out, 2);
-    let at = put_gates(net, form, gates, out);
-    put_outs(net, gates, outputs, out, at);
+    let at = put_gates(net, form, counts.gates, out);
+    put_outs(net, counts, out, at);
 }
 
 pub(crate) fn write_form(net: &[u32], form: Form, result: &mut [u8]) -> Answer
@@ -103,17 +108,11 @@ pub(crate) fn write_form(net: &[u32], form: Form, result: &mut [u8]) -> Answer
     let Answer::Done = r else {
         return r;
     };
-    let gates = net[1];
-    let outputs = net[2];
-    let size = file_size(net, form, gates, outputs);
-    let room = result.len();
-    if room < size {
-        return Answer::Refused {
-            number: answer::ROOM,
-            list: 2,
-            place: room,
-        };
-    }
+    let size = file_size(net, form, counts_of(net));
+    let space = answer::room(result.len(), size, 2);
+    let Answer::Done = space else {
+        return space;
+    };
     put_file(net, form, result);
     Answer::Done
 }

@@ -2,7 +2,7 @@
 use Prim.Native.Nat.{ℕ, zero, suc, _+_, _*_, _<_, _≤_}
 use mathlib.Core.Path.{_≡_, refl, _∙_, ap}
 use mathlib.Core.Bool.{Bool, true, false}
-use mathlib.Core.List.{List, [], _∷_, _++_, append-assoc}
+use mathlib.Core.List.{List, _++_, append-assoc}
 use native.Mathlib.Omega.{arith}
 use lib.ListN.{length, getD, length-append}
 use lib.Seq.{getD-append-add}
@@ -10,13 +10,12 @@ use borrow.Author.Tests.{leb-true, eqb-true, not-false, ltb-false}
 use Rattle.answer.specs.declared.Answer.the-variants.{Done}
 use Rattle.answer.specs.Choose.{choose}
 use Rattle.answer.proofs.Rows.{first-done, then-done, refuse-done, each-at}
-use Rattle.netlist.specs.Words.{gatePlace}
-use Rattle.netlist.specs.Check.{countsAnswer}
+use Rattle.netlist.specs.Words.{gateStride, gatePlace, header, wordCount}
 use Rattle.netlist.proofs.Accepted.{counts-done}
 use Rattle.records.specs.declared.form.Form.{Form}
 use Rattle.records.specs.Bytes.{wordAt, joined}
-use Rattle.records.specs.File.{markOf, headSize, inputsIn, gatesIn, outputsIn, begins, startOf, fourIn, outWord, wordsIn, recordAnswer, gateRecord, outRecord, outsAnswer, recordsAnswer}
-use Rattle.records.specs.Steps.{Begun, Headed, Framed}
+use Rattle.records.specs.File.{outSize, countsIn, gatesIn, outputsIn, begins, startOf, fourIn, outWord, wordsIn, recordAnswer, gateRecord, outRecord, outsAnswer, recordsAnswer, headAnswer}
+use Rattle.records.specs.Inner.{Begun, Headed, Framed}
 use Rattle.records.proofs.Joined.{joined-at, joined-in, joined-length}
 
 -- ---- what whole records tell
@@ -33,9 +32,9 @@ begun s p letter size d =
     let b = choose-false _ _ (a .1) in
     record { fits = leb-true _ _ (a .0); first = eqb-true _ _ (b .0); second = eqb-true _ _ (b .1) }
 
-pub headed : (form : Form) (s : List ℕ) → recordAnswer s 0 (markOf form) headSize ≡ Done
-    → countsAnswer 1 (inputsIn s) (gatesIn s) (outputsIn s) ≡ Done → Headed form s
-headed form s h c = record { head = begun _ _ _ _ h; limits = counts-done 1 _ _ _ c }
+pub headed : (form : Form) (s : List ℕ) → headAnswer form s ≡ Done → Headed form s
+unfolding headAnswer
+headed form s h = record { head = begun _ _ _ _ (first-done _ _ h); limits = counts-done 1 _ (then-done _ _ h) }
 
 pub framed : (form : Form) (s : List ℕ) → Headed form s → recordsAnswer form s ≡ Done → Framed form s
 unfolding recordsAnswer gateRecord outRecord outsAnswer
@@ -56,50 +55,50 @@ module _ (form : Form) (s : List ℕ) (f : Framed form s) where
   ends zero h = f .head .fits
   ends (suc g) h = f .gate g (omega arith) .fits
 
-  pub out-ends : (o : ℕ) → o ≤ outputsIn s → startOf form s (gatesIn s) + 6 * o ≤ length s
+  pub out-ends : (o : ℕ) → o ≤ outputsIn s → startOf form s (gatesIn s) + outSize * o ≤ length s
   out-ends zero h = omega (arith, ends (gatesIn s) (omega arith))
   out-ends (suc o) h = omega (arith, f .out o (omega arith) .fits)
 
 -- ---- the words by place
 
 module _ (form : Form) (s : List ℕ) where
-  pub fours-length : (n : ℕ) → length (joined n (fourIn form s)) ≡ 4 * n
+  pub fours-length : (n : ℕ) → length (joined n (fourIn form s)) ≡ gateStride * n
   unfolding fourIn
-  fours-length n = joined-length n 4 (fourIn form s) (λ i. refl)
+  fours-length n = joined-length n gateStride (fourIn form s) (λ i. refl)
 
   outs-length : (p n : ℕ) → length (joined n (outWord s p)) ≡ 1 * n
   unfolding outWord
   outs-length p n = joined-length n 1 (outWord s p) (λ i. refl)
 
-  pub words-length : length (wordsIn form s) ≡ gatePlace (gatesIn s) + outputsIn s
+  pub words-length : length (wordsIn form s) ≡ wordCount (countsIn s)
   unfolding wordsIn
   words-length =
-      let a : List ℕ = inputsIn s ∷ gatesIn s ∷ outputsIn s ∷ [] in
+      let a = header (countsIn s) in
       length-append (a ++ joined (gatesIn s) (fourIn form s)) (joined (outputsIn s) (outWord s (startOf form s (gatesIn s))))
       ∙ omega (arith, length-append a (joined (gatesIn s) (fourIn form s)), fours-length (gatesIn s), outs-length (startOf form s (gatesIn s)) (outputsIn s))
 
-  four : (g : ℕ) → length (fourIn form s g) ≡ 4
+  four : (g : ℕ) → length (fourIn form s g) ≡ gateStride
   unfolding fourIn
   four g = refl
 
   -- word j of gate g
-  pub gate-word : (g j : ℕ) → g < gatesIn s → j < 4 → getD (wordsIn form s) (gatePlace g + j) 0 ≡ getD (fourIn form s g) j 0
+  pub gate-word : (g j : ℕ) → g < gatesIn s → j < gateStride → getD (wordsIn form s) (gatePlace g + j) 0 ≡ getD (fourIn form s g) j 0
   unfolding wordsIn
   gate-word g j h k =
-      let a : List ℕ = inputsIn s ∷ gatesIn s ∷ outputsIn s ∷ [] in
+      let a = header (countsIn s) in
       let G = joined (gatesIn s) (fourIn form s) in
       let O = joined (outputsIn s) (outWord s (startOf form s (gatesIn s))) in
       let n = length (joined g (fourIn form s)) in
-      let e : gatePlace g + j ≡ 3 + (n + j) = omega (arith, fours-length g) in
+      let e : gatePlace g + j ≡ length a + (n + j) = omega (arith, fours-length g) in
       ap (λ i. getD (a ++ G ++ O) i 0) e
-      ∙ ap (λ l. getD l (3 + (n + j)) 0) (append-assoc a G O)
+      ∙ ap (λ l. getD l (length a + (n + j)) 0) (append-assoc a G O)
       ∙ getD-append-add a (G ++ O) (n + j) 0
       ∙ joined-at (gatesIn s) g (fourIn form s) O j h (rw (four g) k)
 
-  pub output-word : (o : ℕ) → o < outputsIn s → getD (wordsIn form s) (gatePlace (gatesIn s) + o) 0 ≡ wordAt s (startOf form s (gatesIn s) + 6 * o + 2)
+  pub output-word : (o : ℕ) → o < outputsIn s → getD (wordsIn form s) (gatePlace (gatesIn s) + o) 0 ≡ wordAt s (startOf form s (gatesIn s) + outSize * o + 2)
   unfolding wordsIn outWord
   output-word o h =
-      let a : List ℕ = inputsIn s ∷ gatesIn s ∷ outputsIn s ∷ [] in
+      let a = header (countsIn s) in
       let G = joined (gatesIn s) (fourIn form s) in
       let p = startOf form s (gatesIn s) in
       let O = joined (outputsIn s) (outWord s p) in

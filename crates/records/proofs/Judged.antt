@@ -8,21 +8,23 @@ use native.Mathlib.Numerals.{add-one}
 use native.Mathlib.Nat.{add-zero, le-antisymm}
 use lib.ListN.{length, getD}
 use lib.Dec.{ltb}
-use borrow.Author.Tests.{leb-true, ltb-false, lt-ltb, le-ltb, le-leb, lt-leb, eq-eqb, ne-eqb}
+use borrow.Author.Tests.{leb-true, lt-ltb, le-ltb, le-leb, lt-leb, eq-eqb, ne-eqb}
 use Rattle.answer.specs.declared.Answer.{Answer}
 use Rattle.answer.specs.declared.Answer.the-variants.{Done, Refused}
 use Rattle.answer.specs.Answers.{refuse, each}
 use Rattle.answer.specs.Choose.{choose}
-use Rattle.answer.proofs.Rows.{first-done, then-done, both, stop, go, refuse-done, refuse-yes, refuse-not, each-all}
-use Rattle.netlist.specs.Words.{gatePlace}
+use Rattle.answer.proofs.Rows.{first-done, then-done, both, stop, go, refuse-yes, refuse-not, each-all}
+use Rattle.answer.proofs.Judges.{room-done}
+use Rattle.netlist.specs.declared.counts.Counts.{Counts}
+use Rattle.netlist.specs.Words.{gatePlace, wordCount}
 use Rattle.netlist.specs.Check.{wordsAnswer, gateAnswer, outputAnswer, wiresAnswer}
 use Rattle.records.specs.declared.form.Form.{Form}
 use Rattle.records.specs.declared.Quad.{Quad}
 use Rattle.records.specs.declared.marks.Walk.{Walk}
 use Rattle.records.specs.Bytes.{wordAt, wholeWord}
-use Rattle.records.specs.File.{byteN, byteG, byteO, widthOf, inputsIn, gatesIn, outputsIn, begins, sizeAt, startOf, operandAt, fourIn, wordsIn, recordAnswer, gateRecord, outRecord, outsAnswer, recordsAnswer, readAnswer, checkAnswer}
-use Rattle.records.specs.Quads.{quadIn, gateThere, wholeQuad}
-use Rattle.records.specs.Steps.{gateWire, outWire, Walked, GatesThere, Framed}
+use Rattle.records.specs.File.{byteN, byteG, byteO, widthOf, headSize, outSize, countsIn, inputsIn, gatesIn, outputsIn, begins, sizeAt, startOf, operandAt, fourIn, wordsIn, recordAnswer, gateRecord, outRecord, outsAnswer, recordsAnswer, bodyAnswer, readAnswer, checkAnswer}
+use Rattle.records.specs.Whole.{wholeCounts, quadIn, gateThere, wholeQuad}
+use Rattle.records.specs.Inner.{gateWire, outWire, Walked, GatesThere, Framed}
 use Rattle.records.proofs.Found.{begun, headed, framed, gate-word, output-word}
 
 -- ---- a record
@@ -69,7 +71,21 @@ pub operand-from : (form : Form) (s : List ℕ) (p j : ℕ) {k w r : ℕ} → k 
 unfolding operandAt
 operand-from form s p j e d h = rw (← e, ← d) h
 
--- ---- words and gate records taken out
+-- ---- counts, words and gate records taken out
+
+module _ (s : List ℕ) where
+  pub counts-whole : {c : Counts} → headSize ≤ length s → c ≡ countsIn s → c ≡ wholeCounts s
+  unfolding wholeCounts
+  counts-whole h e = simp (le-leb _ _ h) e
+
+  pub counts-cut : length s < headSize → record { inputs = 0; gates = 0; outputs = 0 } ≡ wholeCounts s
+  unfolding wholeCounts
+  counts-cut h = simp (lt-leb _ _ h)
+
+  -- for who knows that the bytes are there
+  pub whole-counts : {c : Counts} → headSize ≤ length s → c ≡ wholeCounts s → c ≡ countsIn s
+  unfolding wholeCounts
+  whole-counts h e = simp (le-leb _ _ h) at e
 
 module _ (s : List ℕ) (p : ℕ) where
   pub word-whole : {x : ℕ} → p + 4 ≤ length s → x ≡ wordAt s p → x ≡ wholeWord s p
@@ -123,7 +139,7 @@ module _ (form : Form) (s : List ℕ) (p : ℕ) where
 
 -- ---- loops over gates
 
-pub start-zero : (form : Form) (s : List ℕ) → 14 ≡ startOf form s 0
+pub start-zero : (form : Form) (s : List ℕ) → headSize ≡ startOf form s 0
 unfolding startOf
 start-zero form s = refl
 
@@ -161,11 +177,11 @@ wire-at form s I g d e h = rw (← e) (rw d at h)
 
 -- ---- loops over outputs
 
-pub out-record-at : (s : List ℕ) (from o : ℕ) {at : ℕ} {r : Answer} → at ≡ from + 6 * o → r ≡ recordAnswer s at byteO 6 → r ≡ outRecord s from o
+pub out-record-at : (s : List ℕ) (from o : ℕ) {at : ℕ} {r : Answer} → at ≡ from + outSize * o → r ≡ recordAnswer s at byteO outSize → r ≡ outRecord s from o
 unfolding outRecord
 out-record-at s from o e h = rw (← e, h)
 
-module _ (s : List ℕ) (from : ℕ) {n o at : ℕ} (h : o ≤ n) (k : n ≤ o) (e : each o (outRecord s from) ≡ Done) (a : at ≡ from + 6 * o) where
+module _ (s : List ℕ) (from : ℕ) {n o at : ℕ} (h : o ≤ n) (k : n ≤ o) (e : each o (outRecord s from) ≡ Done) (a : at ≡ from + outSize * o) where
   pub outs-left : at < length s → Refused 12 1 at ≡ outsAnswer s from n
   unfolding outsAnswer
   outs-left l =
@@ -178,7 +194,7 @@ module _ (s : List ℕ) (from : ℕ) {n o at : ℕ} (h : o ≤ n) (k : n ≤ o) 
       let q : o ≡ n = le-antisymm h k in
       rw (← q, ← a) (go refl e (sym (refuse-not 12 1 at (le-ltb _ _ l))))
 
-module _ (s : List ℕ) (from I G o : ℕ) {x : ℕ} (e : x ≡ wordAt s (from + 6 * o + 2)) where
+module _ (s : List ℕ) (from I G o : ℕ) {x : ℕ} (e : x ≡ wordAt s (from + outSize * o + 2)) where
   pub wire-high : I + G ≤ x → Refused 9 1 (gatePlace G + o) ≡ outWire s from I G o
   unfolding outWire
   wire-high h = refuse-yes _ _ _ (rw (← e) (le-leb _ _ h))
@@ -206,49 +222,41 @@ outs-same : (form : Form) (s : List ℕ) (I : ℕ) →
 unfolding outWire
 outs-same form s I = each-same (outputsIn s) _ _ (λ o h. rw (output-word form s o h))
 
-module _ (form : Form) (s : List ℕ) (I G : ℕ) (i : I ≡ inputsIn s) (g : G ≡ gatesIn s) {r : Answer} (h : r ≡ each G (gateWire form s I)) where
+module _ (form : Form) (s : List ℕ) (c : Counts) (e : c ≡ countsIn s) {r : Answer} (h : r ≡ each (c .gates) (gateWire form s (c .inputs))) where
   gates-row : r ≡ each (gatesIn s) (gateAnswer 1 (wordsIn form s) (inputsIn s))
-  gates-row = (rw (i, g) at h) ∙ each-same (gatesIn s) _ _ (gate-same form s (inputsIn s))
+  gates-row = (rw e at h) ∙ each-same (gatesIn s) _ _ (gate-same form s (inputsIn s))
 
-  pub wires-stop : {x y z : ℕ} → r ≡ Refused x y z → r ≡ wiresAnswer 1 (wordsIn form s) (inputsIn s) (gatesIn s) (outputsIn s)
+  pub wires-stop : {x y z : ℕ} → r ≡ Refused x y z → r ≡ wiresAnswer 1 (wordsIn form s) (countsIn s)
   wires-stop k = stop _ gates-row k
 
-  pub wires-go : (O from : ℕ) {q : Answer} → r ≡ Done → O ≡ outputsIn s → from ≡ startOf form s (gatesIn s) → q ≡ each O (outWire s from I G)
-      → q ≡ wiresAnswer 1 (wordsIn form s) (inputsIn s) (gatesIn s) (outputsIn s)
-  wires-go O from k o e q = go gates-row k ((rw (o, e, i, g) at q) ∙ outs-same form s (inputsIn s))
+  pub wires-go : (from : ℕ) {q : Answer} → r ≡ Done → from ≡ startOf form s (gatesIn s) → q ≡ each (c .outputs) (outWire s from (c .inputs) (c .gates))
+      → q ≡ wiresAnswer 1 (wordsIn form s) (countsIn s)
+  wires-go from k f q = go gates-row k ((rw (f, e) at q) ∙ outs-same form s (inputsIn s))
 
-module _ (form : Form) (s : List ℕ) {G : ℕ} (g : G ≡ gatesIn s) {w : Walk} (t : Walked s (each G (gateRecord form s)) (startOf form s G) w) where
+module _ (form : Form) (s : List ℕ) (c : Counts) (e : c ≡ countsIn s) {w : Walk} (t : Walked s (each (c .gates) (gateRecord form s)) (startOf form s (c .gates)) w) where
+  walked : Walked s (each (gatesIn s) (gateRecord form s)) (startOf form s (gatesIn s)) w
+  walked = rw e at t
+
   pub records-stop : {x y z : ℕ} → w .answer ≡ Refused x y z → Walked s (recordsAnswer form s) (startOf form s (gatesIn s)) w
   unfolding recordsAnswer
-  records-stop h = walk-stop s w (stop _ (rw (← g) (t .answer)) h) h
+  records-stop h = walk-stop s w (stop _ (walked .answer) h) h
 
-  pub records-go : (O : ℕ) {r : Answer} → w .answer ≡ Done → O ≡ outputsIn s → r ≡ outsAnswer s (w .at) O
+  pub records-go : {r : Answer} → w .answer ≡ Done → r ≡ outsAnswer s (w .at) (c .outputs)
       → Walked s (recordsAnswer form s) (startOf form s (gatesIn s)) (record { answer = r; at = w .at })
   unfolding recordsAnswer
-  records-go O d o h =
-      let e = t .ends d in
-      record { answer = rw (← g, ← o) (go (t .answer) d (rw (← e .0) h)); ends = λ k. (rw (← g) (e .0), e .1) }
-
--- room for the words
-module _ (s : List ℕ) (n : ℕ) {G O : ℕ} (g : G ≡ gatesIn s) (o : O ≡ outputsIn s) where
-  pub short : n < gatePlace G + O → Refused 8 2 n ≡ refuse 8 2 n (ltb n (gatePlace (gatesIn s) + outputsIn s))
-  short h = rw (← g, ← o) (refuse-yes 8 2 n (lt-ltb _ _ h))
-
-  pub long : gatePlace G + O ≤ n → Done ≡ refuse 8 2 n (ltb n (gatePlace (gatesIn s) + outputsIn s))
-  long h = rw (← g, ← o) (sym (refuse-not 8 2 n (le-ltb _ _ h)))
+  records-go d h =
+      let z = walked .ends d in
+      record { answer = go (walked .answer) d (rw (z .0, e) at h); ends = λ k. z }
 
 -- ---- what is known where nothing was refused
 
 pub check-framed : (form : Form) (s : List ℕ) → checkAnswer form s ≡ Done → Framed form s
-unfolding checkAnswer
-check-framed form s e =
-    let e1 = then-done _ _ e in
-    framed form s (headed form s (first-done _ _ e) (first-done _ _ e1)) (first-done _ _ (then-done _ _ e1))
+unfolding checkAnswer bodyAnswer
+check-framed form s e = framed form s (headed form s (first-done _ _ e)) (first-done _ _ (then-done _ _ e))
 
 -- reading is done where the check is, and there is room
-pub read-done : (form : Form) (s : List ℕ) (n : ℕ) → readAnswer form s n ≡ Done → (checkAnswer form s ≡ Done) × (gatePlace (gatesIn s) + outputsIn s ≤ n)
+pub read-done : (form : Form) (s : List ℕ) (n : ℕ) → readAnswer form s n ≡ Done → (checkAnswer form s ≡ Done) × (wordCount (countsIn s) ≤ n)
 unfolding readAnswer checkAnswer
 read-done form s n e =
     let e1 = then-done _ _ e in
-    let e2 = then-done _ _ e1 in
-    (both (first-done _ _ e) (both (first-done _ _ e1) (then-done _ _ e2)), ltb-false _ _ (refuse-done _ _ _ _ (first-done _ _ e2)))
+    (both (first-done _ _ e) (then-done _ _ e1), room-done 2 n _ (first-done _ _ e1))

@@ -8,7 +8,9 @@ use lib.Dec.{ltb, leb, eqb}
 use Rattle.answer.specs.declared.Answer.{Answer}
 use Rattle.answer.specs.Answers.{_▹_, refuse, each}
 use Rattle.answer.specs.Choose.{choose}
-use Rattle.netlist.specs.Words.{headerWords, gatePlace}
+use Rattle.answer.specs.Judges.{roomAnswer}
+use Rattle.netlist.specs.declared.counts.Counts.{Counts}
+use Rattle.netlist.specs.Words.{headerWords, header, wordCount}
 use Rattle.netlist.specs.Check.{countsAnswer, wiresAnswer}
 use Rattle.records.specs.declared.form.Form.{Form}
 use Rattle.records.specs.declared.form.Form.the-variants.{Full}
@@ -46,14 +48,18 @@ widthOf Full kind = 3
 abbrev pub headSize : ℕ
 headSize = 2 + 4 * headerWords
 
+-- the counts, after its mark
+abbrev pub countsIn : List ℕ → Counts
+countsIn s = record { inputs = wordAt s 2; gates = wordAt s 6; outputs = wordAt s 10 }
+
 abbrev pub inputsIn : List ℕ → ℕ
-inputsIn s = wordAt s 2
+inputsIn s = countsIn s .inputs
 
 abbrev pub gatesIn : List ℕ → ℕ
-gatesIn s = wordAt s 6
+gatesIn s = countsIn s .gates
 
 abbrev pub outputsIn : List ℕ → ℕ
-outputsIn s = wordAt s 10
+outputsIn s = countsIn s .outputs
 
 -- how many bytes the gate record at p takes: mark, kind, operands
 unfoldable pub sizeAt : Form → List ℕ → ℕ → ℕ
@@ -87,7 +93,7 @@ outWord s p o = wordAt s (p + outSize * o + 2) ∷ []
 
 unfoldable pub wordsIn : Form → List ℕ → List ℕ
 wordsIn form s =
-    (inputsIn s ∷ gatesIn s ∷ outputsIn s ∷ [])
+    header (countsIn s)
     ++ joined (gatesIn s) (fourIn form s)
     ++ joined (outputsIn s) (outWord s (startOf form s (gatesIn s)))
 
@@ -115,19 +121,18 @@ outsAnswer s p n = each n (outRecord s p) ▹ refuse 12 1 (p + outSize * n) (ltb
 unfoldable pub recordsAnswer : Form → List ℕ → Answer
 recordsAnswer form s = each (gatesIn s) (gateRecord form s) ▹ outsAnswer s (startOf form s (gatesIn s)) (outputsIn s)
 
+-- header (12), counts (9)
+unfoldable pub headAnswer : Form → List ℕ → Answer
+headAnswer form s = recordAnswer s 0 (markOf form) headSize ▹ countsAnswer 1 (countsIn s)
+
+-- records and rest (12), wires (9)
+unfoldable pub bodyAnswer : Form → List ℕ → Answer
+bodyAnswer form s = recordsAnswer form s ▹ wiresAnswer 1 (wordsIn form s) (countsIn s)
+
 -- header (12), counts (9), room (8), records and rest (12), wires (9), where n words are lent for the result
 unfoldable pub readAnswer : Form → List ℕ → ℕ → Answer
-readAnswer form s n =
-    recordAnswer s 0 (markOf form) headSize
-    ▹ countsAnswer 1 (inputsIn s) (gatesIn s) (outputsIn s)
-    ▹ refuse 8 2 n (ltb n (gatePlace (gatesIn s) + outputsIn s))
-    ▹ recordsAnswer form s
-    ▹ wiresAnswer 1 (wordsIn form s) (inputsIn s) (gatesIn s) (outputsIn s)
+readAnswer form s n = headAnswer form s ▹ roomAnswer 2 n (wordCount (countsIn s)) ▹ bodyAnswer form s
 
 -- the same without room
 unfoldable pub checkAnswer : Form → List ℕ → Answer
-checkAnswer form s =
-    recordAnswer s 0 (markOf form) headSize
-    ▹ countsAnswer 1 (inputsIn s) (gatesIn s) (outputsIn s)
-    ▹ recordsAnswer form s
-    ▹ wiresAnswer 1 (wordsIn form s) (inputsIn s) (gatesIn s) (outputsIn s)
+checkAnswer form s = headAnswer form s ▹ bodyAnswer form s

@@ -1,4 +1,4 @@
 pub mod Bytes
 pub mod File
-pub mod Quads
-pub mod Steps
+pub mod Whole
+pub mod Inner

@@ -1,5 +1,6 @@
 // The form of a file: the header's letter, and how many operands a gate's record has. Nothing else tells one
 // form from another.
+use netlist::HEADER_WORDS;
 ghost use mathlib.Core.Path.{_≡_};
 ghost use Prim.Native.Nat.{_≤_};
 ghost use Rattle.records.specs.File.{markOf, widthOf};
@@ -19,7 +20,7 @@ pub const BYTE_G: u8 = 71;
 pub const BYTE_O: u8 = 79;
 
 // The bytes of the header's record, and of an output's.
-pub const HEAD_SIZE: usize = 14;
+pub const HEAD_SIZE: usize = 2 + 4 * HEADER_WORDS;
 
 pub const OUT_SIZE: usize = 6;
 

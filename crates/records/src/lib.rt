@@ -1,5 +1,5 @@
 // The netlist file judged: docs/RULES.md, "Netlist file". Header (12), counts (9), room (8), records and rest
-// (12), wires (9); a check has no room. Who reads a judged file takes words and gate records out of it here.
+// (12), wires (9); a check has no room. Who reads a judged file takes counts, gate records and words out of it here.
 mod bytes;
 pub mod form;
 mod marks;
@@ -7,20 +7,15 @@ mod wires;
 
 use crate::bytes::word_there;
 use crate::form::Form;
+use crate::form::HEAD_SIZE;
 use answer::Answer;
-use netlist::GATE_STRIDE;
-use netlist::HEADER_WORDS;
+use netlist::counts::Counts;
+use netlist::counts::word_count;
 ghost use mathlib.Core.Path.{_≡_};
-ghost use Prim.Native.Nat.{_+_, _≤_};
-ghost use lib.ListN.{length};
-ghost use lib.Dec.{ltb};
-ghost use Rattle.answer.specs.Answers.{refuse};
-ghost use Rattle.netlist.specs.Words.{gatePlace};
-ghost use Rattle.netlist.specs.Check.{countsAnswer};
 ghost use Rattle.records.specs.Bytes.{wholeWord};
-ghost use Rattle.records.specs.File.{headSize, inputsIn, gatesIn, outputsIn, readAnswer, checkAnswer};
-ghost use Rattle.records.specs.Quads.{gateThere, wholeQuad};
-ghost use Rattle.records.specs.Steps.{bodyAnswer, Headed};
+ghost use Rattle.records.specs.File.{headAnswer, bodyAnswer, readAnswer, checkAnswer};
+ghost use Rattle.records.specs.Whole.{wholeCounts, gateThere, wholeQuad};
+ghost use Rattle.records.specs.Inner.{Headed};
 
 // A gate's four words, and the bytes that its record takes.
 pub struct Quad {
@@ -31,29 +26,33 @@ pub struct Quad {
     pub size: usize,
 }
 
-// The limits of the counts in the header.
-fn counts(s: &[u8]) -> Answer
-    requires { ⌜ headSize ≤ length (now s) ⌝ }
-    ensures { λ r. ⌜ r ≡ countsAnswer 1 (inputsIn (now (s .entry))) (gatesIn (now (s .entry))) (outputsIn (now (s .entry))) ⌝ }
+// The counts in the header's record; all 0 where not all of its bytes are there.
+pub fn counts_in(s: &[u8]) -> Counts
+    ensures { λ r. ⌜ r ≡ wholeCounts (now (s .entry)) ⌝ }
 {
-    netlist::check::counts(word_there(s, 2), word_there(s, 6), word_there(s, 10), 1)
-}
-
-// Whether as many words as the counts say fit into room.
-fn enough(s: &[u8], room: usize) -> Answer
-    requires { ⌜ headSize ≤ length (now s) ⌝ }
-    ensures { λ r. ⌜ r ≡ refuse 8 2 room (ltb room (gatePlace (gatesIn (now (s .entry))) + outputsIn (now (s .entry)))) ⌝ }
-{
-    let gates = word_there(s, 6) as usize;
-    let outputs = word_there(s, 10) as usize;
-    if room < HEADER_WORDS + GATE_STRIDE * gates + outputs {
-        return Answer::Refused {
-            number: answer::ROOM,
-            list: 2,
-            place: room,
+    if s.len() < HEAD_SIZE {
+        return Counts {
+            inputs: 0,
+            gates: 0,
+            outputs: 0,
         };
     }
-    Answer::Done
+    Counts {
+        inputs: word_there(s, 2),
+        gates: word_there(s, 6),
+        outputs: word_there(s, 10),
+    }
+}
+
+// The header's record, then the counts in it.
+fn head(s: &[u8], form: Form) -> Answer
+    ensures { λ r. ⌜ r ≡ headAnswer form (now (s .entry)) ⌝ }
+{
+    let h = marks::header(s, form);
+    let Answer::Done = h else {
+        return h;
+    };
+    netlist::check::counts(counts_in(s), 1)
 }
 
 // Records and rest, then wires.
@@ -73,13 +72,9 @@ fn body(s: &[u8], form: Form) -> Answer
 pub fn check(s: &[u8], form: Form) -> Answer
     ensures { λ r. ⌜ r ≡ checkAnswer form (now (s .entry)) ⌝ }
 {
-    let h = marks::header(s, form);
+    let h = head(s, form);
     let Answer::Done = h else {
         return h;
-    };
-    let c = counts(s);
-    let Answer::Done = c else {
-        return c;
     };
     body(s, form)
 }
@@ -88,15 +83,11 @@ pub fn check(s: &[u8], form: Form) -> Answer
 pub fn judge(s: &[u8], form: Form, room: usize) -> Answer
     ensures { λ r. ⌜ r ≡ readAnswer form (now (s .entry)) room ⌝ }
 {
-    let h = marks::header(s, form);
-    let Answer::Done = h else {
-        return h;
+    let front = head(s, form);
+    let Answer::Done = front else {
+        return front;
     };
-    let limits = counts(s);
-    let space = enough(s, room);
-    let Answer::Done = limits else {
-        return limits;
-    };
+    let space = answer::room(room, word_count(counts_in(s)), 2);
     let Answer::Done = space else {
         return space;
     };

@@ -1,6 +1,5 @@
 // The records of a file: marks, sizes and the rest, refused with 12 at the start of the record or of the rest.
 use crate::bytes::wide;
-use crate::bytes::word_there;
 use crate::form::BYTE_G;
 use crate::form::BYTE_N;
 use crate::form::BYTE_O;
@@ -13,7 +12,7 @@ ghost use Prim.Native.Nat.{_≤_};
 ghost use lib.ListN.{length};
 ghost use Rattle.answer.specs.Answers.{each};
 ghost use Rattle.records.specs.File.{markOf, headSize, gatesIn, begins, sizeAt, startOf, recordAnswer, gateRecord, outsAnswer, recordsAnswer};
-ghost use Rattle.records.specs.Steps.{Walked};
+ghost use Rattle.records.specs.Inner.{Walked};
 
 // A walk over records: its answer, and if that is done where the walk ended.
 pub(crate) struct Walk {
@@ -47,11 +46,7 @@ fn record(s: &[u8], p: usize, letter: u8, size: usize) -> Answer
     if begins_at(s, p, letter, size) {
         return Answer::Done;
     }
-    Answer::Refused {
-        number: answer::FILE,
-        list: 1,
-        place: p,
-    }
+    answer::refused(answer::FILE, 1, p)
 }
 
 // The header's record.
@@ -107,11 +102,7 @@ fn out_records(s: &[u8], from: usize, outputs: u32) -> Answer
         o += 1;
     }
     if at < s.len() {
-        return Answer::Refused {
-            number: answer::FILE,
-            list: 1,
-            place: at,
-        };
+        return answer::refused(answer::FILE, 1, at);
     }
     Answer::Done
 }
@@ -121,16 +112,15 @@ pub(crate) fn records(s: &[u8], form: Form) -> Walk
     requires { ⌜ headSize ≤ length (now s) ⌝ }
     ensures { λ r. ⌜ Walked (now (s .entry)) (recordsAnswer form (now (s .entry))) (startOf form (now (s .entry)) (gatesIn (now (s .entry)))) r ⌝ }
 {
-    let gates = word_there(s, 6);
-    let outputs = word_there(s, 10);
-    let w = gate_records(s, form, gates);
+    let counts = crate::counts_in(s);
+    let w = gate_records(s, form, counts.gates);
     let r = w.answer;
     let Answer::Done = r else {
         return w;
     };
     let at = w.at;
     Walk {
-        answer: out_records(s, at, outputs),
+        answer: out_records(s, at, counts.outputs),
         at,
     }
 }

@@ -16,9 +16,9 @@ ghost use Rattle.answer.specs.Answers.{each};
 ghost use Rattle.answer.specs.Choose.{choose};
 ghost use Rattle.netlist.specs.Check.{inputLimit, gateLimit, wiresAnswer};
 ghost use Rattle.records.specs.Bytes.{wordAt};
-ghost use Rattle.records.specs.File.{outSize, inputsIn, gatesIn, outputsIn, sizeAt, startOf, wordsIn};
-ghost use Rattle.records.specs.Steps.{gateWire, outWire, GatesThere, Framed};
-ghost use Rattle.records.specs.Quads.{quadIn};
+ghost use Rattle.records.specs.File.{outSize, countsIn, gatesIn, sizeAt, startOf, wordsIn};
+ghost use Rattle.records.specs.Inner.{gateWire, outWire, GatesThere, Framed};
+ghost use Rattle.records.specs.Whole.{quadIn};
 
 // Operand j of the gate record at p, which has n.
 fn operand(s: &[u8], p: usize, j: usize, n: usize) -> u32
@@ -82,11 +82,7 @@ fn out_wires(s: &[u8], from: usize, inputs: u32, gates: u32, outputs: u32) -> An
         let i = o as usize;
         let x = word_there(s, from + OUT_SIZE * i + 2);
         if wires <= x {
-            return Answer::Refused {
-                number: answer::NETLIST,
-                list: 1,
-                place: base + i,
-            };
+            return answer::refused(answer::NETLIST, 1, base + i);
         }
         o += 1;
     }
@@ -96,14 +92,12 @@ fn out_wires(s: &[u8], from: usize, inputs: u32, gates: u32, outputs: u32) -> An
 // The words after the counts, in order; from is where the outputs' records begin.
 pub(crate) fn wires(s: &[u8], form: Form, from: usize) -> Answer
     requires { ⌜ (from ≡ startOf form (now s) (gatesIn (now s))) × Framed form (now s) ⌝ }
-    ensures { λ r. ⌜ r ≡ wiresAnswer 1 (wordsIn form (now (s .entry))) (inputsIn (now (s .entry))) (gatesIn (now (s .entry))) (outputsIn (now (s .entry))) ⌝ }
+    ensures { λ r. ⌜ r ≡ wiresAnswer 1 (wordsIn form (now (s .entry))) (countsIn (now (s .entry))) ⌝ }
 {
-    let inputs = word_there(s, 2);
-    let gates = word_there(s, 6);
-    let outputs = word_there(s, 10);
-    let r = gate_wires(s, form, inputs, gates);
+    let counts = crate::counts_in(s);
+    let r = gate_wires(s, form, counts.inputs, counts.gates);
     let Answer::Done = r else {
         return r;
     };
-    out_wires(s, from, inputs, gates, outputs)
+    out_wires(s, from, counts.inputs, counts.gates, counts.outputs)
 }

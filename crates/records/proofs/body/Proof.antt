@@ -1,7 +1,7 @@
 use mathlib.Core.Path.{_∙_, sym}
 use borrow.Author.Needs.{needs}
 use Rattle.answer.proofs.Rows.{go, stop}
-use Rattle.records.specs.Steps.{bodyAnswer}
+use Rattle.records.specs.File.{bodyAnswer}
 use Rattle.records.proofs.Found.{framed}
 use Rattle.records.proofs.body.Statement.{statement}
 use Rattle.records.proofs.body.Tie as tie

@@ -1,14 +1,37 @@
-use mathlib.Core.Path.{_∙_, sym}
+use mathlib.Core.Path.{_≡_, _∙_, sym, ap}
+use mathlib.Core.List.{List}
+use Prim.Native.Nat.{ℕ}
+use denote.Ref.{now}
 use borrow.Author.Needs.{needs}
+use Rattle.answer.specs.Judges.{roomAnswer}
 use Rattle.answer.proofs.Rows.{go, stop}
-use Rattle.records.specs.File.{readAnswer}
-use Rattle.records.specs.Steps.{bodyAnswer}
-use Rattle.records.proofs.Found.{begun, headed}
+use Rattle.netlist.specs.Words.{wordCount}
+use Rattle.records.specs.File.{countsIn, readAnswer}
+use Rattle.records.specs.Inner.{Headed}
+use Rattle.records.proofs.Found.{headed}
+use Rattle.records.proofs.Judged.{whole-counts}
 use Rattle.records.proofs.judge.Statement.{statement}
 use Rattle.records.proofs.judge.Tie as tie
 
-header-requires : tie.Need-header-requires
-header-requires c κs = search needs
+-- the file, what it has once its header and counts are accepted, and what was answered of the room
+abbrev file : tie.After-head → List ℕ
+file c = now (c .before .before .args .s)
+
+abbrev headAt : tie.After-room → tie.After-head
+headAt c = c .before .before .before .before .before
+
+accepted : (c : tie.After-enum-told) → Headed (c .before .before .before .before .args .form) (file (c .before .before))
+accepted c = headed _ _ (sym (c .before .before .head .ensures) ∙ c .enum-told .given .1)
+
+roomed : (c : tie.After-room) → c .room .result ≡ roomAnswer 2 (headAt c .before .before .args .room) (wordCount (countsIn (file (headAt c))))
+roomed c =
+    let size = c .before in
+    let n = size .before in
+    let counted = whole-counts _ (accepted (n .before) .head .fits) (n .counts-in .ensures) in
+    c .room .ensures ∙ ap (roomAnswer 2 _) (size .word-count .ensures ∙ ap wordCount counted)
+
+head-requires : tie.Need-head-requires
+head-requires c κs = search needs
 
 enum-told : tie.Need-enum-told
 enum-told c = search needs
@@ -18,15 +41,16 @@ enum-told-2 c = search needs
 
 returns : tie.Need-returns
 unfolding readAnswer
-returns c = stop _ (c .before .before .header .ensures) (c .enum-told2 .given .1)
+returns c = stop _ (c .before .before .head .ensures) (c .enum-told2 .given .1)
 
-counts-requires : tie.Need-counts-requires
-counts-requires c κs = begun _ _ _ _ (sym (c .before .before .header .ensures) ∙ c .enum-told .given .1) .fits
+counts-in-requires : tie.Need-counts-in-requires
+counts-in-requires c κs = search needs
 
-enough-requires : tie.Need-enough-requires
-enough-requires c κs =
-    let t = c .before in
-    begun _ _ _ _ (sym (t .before .before .header .ensures) ∙ t .enum-told .given .1) .fits
+word-count-requires : tie.Need-word-count-requires
+word-count-requires c κs = search needs
+
+room-requires : tie.Need-room-requires
+room-requires c κs = search needs
 
 enum-told-3 : tie.Need-enum-told-3
 enum-told-3 c = search needs
@@ -37,57 +61,34 @@ enum-told-4 c = search needs
 returns-2 : tie.Need-returns-2
 unfolding readAnswer
 returns-2 c =
-    let k = c .before .before .before in
-    let t = k .before in
-    go (t .before .before .header .ensures) (t .enum-told .given .1) (stop _ (k .counts .ensures) (c .enum-told4 .given .1))
+    let space = c .before .before in
+    let told = space .before .before .before in
+    go (told .before .before .head .ensures) (told .enum-told .given .1) (stop _ (roomed space) (c .enum-told4 .given .1))
 
-enum-told-5 : tie.Need-enum-told-5
-enum-told-5 c = search needs
-
-enum-told-6 : tie.Need-enum-told-6
-enum-told-6 c = search needs
+body-requires : tie.Need-body-requires
+body-requires c κs = accepted (c .before .before .before .before .before)
 
 returns-3 : tie.Need-returns-3
 unfolding readAnswer
 returns-3 c =
-    let d = c .before .before in
-    let e = d .before .before in
-    let t = e .before .before in
-    go (t .before .before .header .ensures) (t .enum-told .given .1)
-    (go (e .before .counts .ensures) (d .enum-told3 .given .1) (stop _ (e .enough .ensures) (c .enum-told6 .given .1)))
-
-body-requires : tie.Need-body-requires
-body-requires c κs =
-    let d = c .before .before in
-    let k = d .before .before .before in
-    let t = k .before in
-    headed _ _ (sym (t .before .before .header .ensures) ∙ t .enum-told .given .1) (sym (k .counts .ensures) ∙ d .enum-told3 .given .1)
-
-returns-4 : tie.Need-returns-4
-unfolding readAnswer bodyAnswer
-returns-4 c =
-    let f = c .before in
-    let d = f .before .before in
-    let e = d .before .before in
-    let t = e .before .before in
-    go (t .before .before .header .ensures) (t .enum-told .given .1)
-    (go (e .before .counts .ensures) (d .enum-told3 .given .1) (go (e .enough .ensures) (f .enum-told5 .given .1) (c .body .ensures)))
+    let enough = c .before in
+    let space = enough .before .before in
+    let told = space .before .before .before in
+    go (told .before .before .head .ensures) (told .enum-told .given .1) (go (roomed space) (enough .enum-told3 .given .1) (c .body .ensures))
 
 pub judge-spec : {M : Type 1} → statement M
 judge-spec =
     tie.close
     (tie.spec
-    header-requires
+    head-requires
     enum-told
     enum-told-2
     returns
-    counts-requires
-    enough-requires
+    counts-in-requires
+    word-count-requires
+    room-requires
     enum-told-3
     enum-told-4
     returns-2
-    enum-told-5
-    enum-told-6
-    returns-3
     body-requires
-    returns-4)
+    returns-3)

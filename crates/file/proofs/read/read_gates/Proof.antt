@@ -5,6 +5,7 @@ use lib.ListN.{length}
 use lib.Seq.{sets}
 use borrow.Author.Needs.{needs}
 use denote.Ref.{now}
+use Rattle.netlist.specs.Words.{headerWords}
 use Rattle.records.specs.Bytes.{joined}
 use Rattle.records.specs.File.{fourIn, sizeAt, startOf}
 use Rattle.records.proofs.Judged.{quad-size, start-next, start-zero, there-at, whole-quad}
@@ -13,7 +14,7 @@ use Rattle.file.proofs.read.read_gates.Statement.{statement}
 use Rattle.file.proofs.read.read_gates.Tie as tie
 
 abbrev Inv-loop : tie.InvT-loop
-Inv-loop s form gates out₀ g₀ at₀ out g at = (g ≤ gates) × (out ≡ sets out₀ 3 (joined g (fourIn form s))) × (at ≡ startOf form s g) × (length out ≡ length out₀)
+Inv-loop s form gates out₀ g₀ at₀ out g at = (g ≤ gates) × (out ≡ sets out₀ headerWords (joined g (fourIn form s))) × (at ≡ startOf form s g) × (length out ≡ length out₀)
 
 abbrev μ-loop : tie.MeasureT-loop
 μ-loop s form gates out₀ g₀ at₀ out g at = gates - g

@@ -1,10 +1,11 @@
 use Prim.Native.Nat.{_*_, _+_, _-_, _≤_}
-use mathlib.Core.Path.{_≡_, refl}
+use mathlib.Core.Path.{_≡_, refl, ap}
 use native.Mathlib.Omega.{arith}
 use lib.ListN.{length}
 use borrow.Author.Needs.{needs}
 use Rattle.netlist.specs.Words.{gatesOf}
 use Rattle.records.specs.Bytes.{joined}
+use Rattle.records.specs.File.{headSize}
 use Rattle.file.specs.File.{gateBytes}
 use Rattle.file.proofs.Put.{gate-size, joined-empty, joined-next}
 use Rattle.file.proofs.Written.{file-length}
@@ -12,7 +13,7 @@ use Rattle.file.proofs.write.file_size.Statement.{statement}
 use Rattle.file.proofs.write.file_size.Tie as tie
 
 abbrev Inv-loop : tie.InvT-loop
-Inv-loop net form gates outputs g₀ at₀ g at = (g ≤ gates) × (at ≡ 14 + length (joined g (gateBytes form net))) × (at ≤ 14 + 15 * g)
+Inv-loop net form gates outputs g₀ at₀ g at = (g ≤ gates) × (at ≡ headSize + length (joined g (gateBytes form net))) × (at ≤ headSize + 15 * g)
 
 abbrev μ-loop : tie.MeasureT-loop
 μ-loop net form gates outputs g₀ at₀ g at = gates - g
@@ -60,6 +61,9 @@ loop-again c =
     let z = gate-size (a .form) (a .net .now) (l .g) refl (c .width .ensures .0) in
     (search needs, omega (arith, z, joined-next (gateBytes (a .form) (a .net .now)) (l .g)), omega arith)
 
+cast-result : tie.Need-cast-result Inv-loop μ-loop
+cast-result c = search needs
+
 mul-result : tie.Need-mul-result Inv-loop μ-loop
 mul-result c = search needs
 
@@ -69,9 +73,10 @@ add-result c = search needs
 returns : tie.Need-returns Inv-loop μ-loop
 returns c =
     let l = c .before .loop in
-    let a = c .before .before .before .args in
-    let e : l .g ≡ gatesOf (a .net .now) = omega arith in
-    omega (arith, file-length (a .form) (a .net .now), rw e at (l .inv .1))
+    let s = c .before .before .before in
+    let net = s .args .net .now in
+    let gates : l .g ≡ gatesOf net = omega (arith, ap (λ n. n .gates) (s .pre .0)) in
+    omega (arith, file-length (s .args .form) net, rw gates at (l .inv .1), ap (λ n. n .outputs) (s .pre .0))
 
 pub file-size-spec : {M : Type 1} → statement M
 file-size-spec =
@@ -92,6 +97,7 @@ file-size-spec =
     add-g
     loop-less
     loop-again
+    cast-result
     mul-result
     add-result
     returns)

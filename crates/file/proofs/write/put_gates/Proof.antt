@@ -5,6 +5,7 @@ use lib.ListN.{length}
 use lib.Seq.{sets}
 use borrow.Author.Needs.{needs}
 use Rattle.records.specs.Bytes.{joined}
+use Rattle.records.specs.File.{headSize}
 use Rattle.file.specs.File.{gateBytes}
 use Rattle.file.proofs.Joined.{joined-most}
 use Rattle.file.proofs.Put.{joined-empty, joined-next, joined-none, put-next}
@@ -13,8 +14,8 @@ use Rattle.file.proofs.write.put_gates.Tie as tie
 
 abbrev Inv-loop : tie.InvT-loop
 Inv-loop net form gates out₀ g₀ at₀ out g at =
-    (g ≤ gates) × (out ≡ sets out₀ 14 (joined g (gateBytes form net)))
-    × (at ≡ 14 + length (joined g (gateBytes form net)))
+    (g ≤ gates) × (out ≡ sets out₀ headSize (joined g (gateBytes form net)))
+    × (at ≡ headSize + length (joined g (gateBytes form net)))
     × (length out ≡ length out₀)
 
 abbrev μ-loop : tie.MeasureT-loop
@@ -46,8 +47,9 @@ loop-less c = search needs
 loop-again : tie.Need-loop-again Inv-loop μ-loop
 loop-again c =
     let w = c .before .before in
-    let l = w .before .before .before .loop in
-    let a = w .before .before .before .before .before .before .args in (
+    let turn = w .before .before .before in
+    let l = turn .loop in
+    let a = turn .before .before .before .args in (
       search needs,
       put-next _ _ _ _ (l .inv .1) (l .inv .2) (w .put-gate .ensures .0),
       omega (arith, joined-next (gateBytes (a .form) (a .net .now)) (l .g), w .put-gate .ensures .1, l .inv .2),

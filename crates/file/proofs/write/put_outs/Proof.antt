@@ -1,5 +1,5 @@
 use Prim.Native.Nat.{_-_, _≤_}
-use mathlib.Core.Path.{_≡_}
+use mathlib.Core.Path.{_≡_, ap}
 use native.Mathlib.Omega.{arith}
 use lib.ListN.{length}
 use lib.Seq.{sets}
@@ -11,10 +11,13 @@ use Rattle.file.proofs.write.put_outs.Statement.{statement}
 use Rattle.file.proofs.write.put_outs.Tie as tie
 
 abbrev Inv-loop : tie.InvT-loop
-Inv-loop net gates outputs out₀ from base o₀ out o = (o ≤ outputs) × (out ≡ sets out₀ from (joined o (outBytes net))) × (length out ≡ length out₀)
+Inv-loop net out₀ from gates outputs base o₀ out o = (o ≤ outputs) × (out ≡ sets out₀ from (joined o (outBytes net))) × (length out ≡ length out₀)
 
 abbrev μ-loop : tie.MeasureT-loop
-μ-loop net gates outputs out₀ from base o₀ out o = outputs - o
+μ-loop net out₀ from gates outputs base o₀ out o = outputs - o
+
+cast-base : tie.Need-cast-base Inv-loop μ-loop
+cast-base c = search needs
 
 mul-base : tie.Need-mul-base Inv-loop μ-loop
 mul-base c = search needs
@@ -56,10 +59,12 @@ loop-again : tie.Need-loop-again Inv-loop μ-loop
 loop-again c =
     let w = c .before .before in
     let m = w .before .before .before .before in
-    let l = m .before .before .before .loop in
-    let k = m .before .before .before .before .before .before .pre .0 in (
+    let turn = m .before .before .before in
+    let l = turn .loop in
+    let s = turn .before .before .before in
+    let gates = ap (λ n. n .gates) (s .pre .0) in (
       search needs,
-      outs-next _ _ _ _ (l .inv .1) (out-put _ _ _ _ _ (m .put-mark .ensures) (w .put-words .ensures) k),
+      outs-next _ _ _ _ (l .inv .1) (out-put _ _ _ _ _ (m .put-mark .ensures) (w .put-words .ensures) gates),
       omega (arith, w .put-words .kept .1 .1 .1 .0, m .put-mark .kept .0, l .inv .2),
     )
 
@@ -69,7 +74,7 @@ same-length c = search needs
 returns : tie.Need-returns Inv-loop μ-loop
 returns c =
     let l = c .before .loop in
-    let e : l .o ≡ c .before .before .before .before .args .outputs = omega arith in
+    let e : l .o ≡ c .before .before .before .before .args .counts .outputs = omega arith in
     rw e at (l .inv .1)
 
 pub put-outs-spec : {M : Type 1} → statement M
@@ -78,6 +83,7 @@ put-outs-spec =
     (tie.spec
     Inv-loop
     μ-loop
+    cast-base
     mul-base
     add-base
     loop-holds

@@ -56,7 +56,11 @@ add-result-3 c = search needs
 
 returns : tie.Need-returns
 unfolding wordAt
-returns c = rw (c .before .before .before .before .before .before .wide .ensures .0, c .before .before .before .before .wide2 .ensures .0, c .before .before .wide3 .ensures .0, c .wide4 .ensures .0)
+returns c =
+    let third = c .before .before in
+    let second = third .before .before in
+    let first = second .before .before in
+    rw (first .wide .ensures .0, second .wide2 .ensures .0, third .wide3 .ensures .0, c .wide4 .ensures .0)
 
 pub word-there-spec : {M : Type 1} → statement M
 word-there-spec =

@@ -1,18 +1,18 @@
 use Prim.Native.Nat.{_*_, _+_, _-_, _≤_}
-use mathlib.Core.Path.{_≡_}
+use mathlib.Core.Path.{_≡_, _∙_}
 use native.Mathlib.Omega.{arith}
 use lib.ListN.{length}
 use borrow.Author.Needs.{needs}
 use Rattle.answer.proofs.Rows.{each-more, each-none, each-stop, stop}
 use Rattle.answer.specs.Answers.{each}
 use Rattle.answer.specs.declared.Answer.the-variants.{Done}
-use Rattle.records.specs.File.{outRecord, outsAnswer}
+use Rattle.records.specs.File.{outSize, outRecord, outsAnswer}
 use Rattle.records.proofs.Judged.{out-record-at, outs-end, outs-left, record-ends}
 use Rattle.records.proofs.marks.out_records.Statement.{statement}
 use Rattle.records.proofs.marks.out_records.Tie as tie
 
 abbrev Inv-loop : tie.InvT-loop
-Inv-loop s from outputs o₀ at₀ o at = (o ≤ outputs) × (each o (outRecord s from) ≡ Done) × (at ≡ from + 6 * o) × (at ≤ length s)
+Inv-loop s from outputs o₀ at₀ o at = (o ≤ outputs) × (each o (outRecord s from) ≡ Done) × (at ≡ from + outSize * o) × (at ≤ length s)
 
 abbrev μ-loop : tie.MeasureT-loop
 μ-loop s from outputs o₀ at₀ o at = outputs - o
@@ -57,10 +57,14 @@ loop-again c =
       record-ends _ _ _ _ (r .record .ensures) (c .enum-told .given .1),
     )
 
+refused-requires : tie.Need-refused-requires Inv-loop μ-loop
+refused-requires c κs = search needs
+
 returns-2 : tie.Need-returns-2 Inv-loop μ-loop
 returns-2 c =
-    let l = c .before .before .loop in
-    outs-left _ _ (l .inv .0) (c .before .loop-test .left) (l .inv .1) (l .inv .2) (c .if1 .taken)
+    let rest = c .before in
+    let l = rest .before .before .loop in
+    c .refused .ensures ∙ outs-left _ _ (l .inv .0) (rest .before .loop-test .left) (l .inv .1) (l .inv .2) (rest .if1 .taken)
 
 returns-3 : tie.Need-returns-3 Inv-loop μ-loop
 returns-3 c =
@@ -82,5 +86,6 @@ out-records-spec =
     add-o
     loop-less
     loop-again
+    refused-requires
     returns-2
     returns-3)

@@ -1,3 +1,4 @@
+use mathlib.Core.Path.{_∙_}
 use borrow.Author.Needs.{needs}
 use Rattle.records.proofs.Judged.{record-broken, record-whole}
 use Rattle.records.proofs.marks.record.Statement.{statement}
@@ -9,8 +10,11 @@ begins-at-requires c κs = search needs
 returns : tie.Need-returns
 returns c = record-whole _ _ _ _ (c .before .begins-at .ensures) (c .if1 .taken)
 
+refused-requires : tie.Need-refused-requires
+refused-requires c κs = search needs
+
 returns-2 : tie.Need-returns-2
-returns-2 c = record-broken _ _ _ _ (c .before .begins-at .ensures) (c .if1 .left)
+returns-2 c = c .refused .ensures ∙ record-broken _ _ _ _ (c .before .before .begins-at .ensures) (c .before .if1 .left)
 
 pub record-spec : {M : Type 1} → statement M
-record-spec = tie.close (tie.spec begins-at-requires returns returns-2)
+record-spec = tie.close (tie.spec begins-at-requires returns refused-requires returns-2)

@@ -6,7 +6,7 @@ use Rattle.answer.proofs.Rows.{each-all, each-more, each-none, each-stop}
 use Rattle.answer.specs.Answers.{each}
 use Rattle.answer.specs.declared.Answer.the-variants.{Done}
 use Rattle.records.specs.File.{startOf}
-use Rattle.records.specs.Steps.{gateWire}
+use Rattle.records.specs.Inner.{gateWire}
 use Rattle.records.proofs.Judged.{quad-size, start-next, start-zero, there-at, wire-at}
 use Rattle.records.proofs.wires.gate_wires.Statement.{statement}
 use Rattle.records.proofs.wires.gate_wires.Tie as tie

@@ -1,10 +1,10 @@
 use Prim.Native.Nat.{_-_, _≤_}
-use mathlib.Core.Path.{_≡_, refl}
+use mathlib.Core.Path.{_≡_, refl, _∙_}
 use borrow.Author.Needs.{needs}
 use Rattle.answer.proofs.Rows.{each-all, each-more, each-none, each-stop}
 use Rattle.answer.specs.Answers.{each}
 use Rattle.answer.specs.declared.Answer.the-variants.{Done}
-use Rattle.records.specs.Steps.{outWire}
+use Rattle.records.specs.Inner.{outWire}
 use Rattle.records.proofs.Judged.{wire-high, wire-low}
 use Rattle.records.proofs.wires.out_wires.Statement.{statement}
 use Rattle.records.proofs.wires.out_wires.Tie as tie
@@ -42,14 +42,18 @@ add-word-there-2 c = search needs
 word-there-requires : tie.Need-word-there-requires Inv-loop μ-loop
 word-there-requires c κs = search needs
 
-add-t17 : tie.Need-add-t17 Inv-loop μ-loop
-add-t17 c = search needs
+add-refused : tie.Need-add-refused Inv-loop μ-loop
+add-refused c = search needs
+
+refused-requires : tie.Need-refused-requires Inv-loop μ-loop
+refused-requires c κs = search needs
 
 returns : tie.Need-returns Inv-loop μ-loop
 returns c =
-    let w = c .before in
+    let w = c .before .before in
     let l = w .before .before .loop in
-    each-stop _ _ _ (w .before .loop-test .taken) (l .inv .1) (wire-high _ _ _ _ _ (w .word-there .ensures) (c .if1 .taken)) refl
+    let e = c .refused .ensures ∙ wire-high _ _ _ _ _ (w .word-there .ensures) (c .before .if1 .taken) in
+    each-stop _ _ _ (w .before .loop-test .taken) (l .inv .1) e (c .refused .ensures)
 
 add-o : tie.Need-add-o Inv-loop μ-loop
 add-o c = search needs
@@ -81,7 +85,8 @@ out-wires-spec =
     add-word-there
     add-word-there-2
     word-there-requires
-    add-t17
+    add-refused
+    refused-requires
     returns
     add-o
     loop-less

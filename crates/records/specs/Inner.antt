@@ -1,4 +1,5 @@
--- The steps in which the code judges a file, and what each hands to the next.
+-- Inner: what the contracts of private functions cite, here and where a file is read. The steps in which the code judges a file, and
+-- what each hands to the next.
 use Prim.Native.Nat.{ℕ, _+_, _*_, _<_, _≤_}
 use mathlib.Core.Path.{_≡_}
 use mathlib.Core.List.{List}
@@ -6,18 +7,14 @@ use lib.ListN.{length, getD}
 use lib.Dec.{leb}
 use Rattle.answer.specs.declared.Answer.{Answer}
 use Rattle.answer.specs.declared.Answer.the-variants.{Done}
-use Rattle.answer.specs.Answers.{_▹_, refuse}
+use Rattle.answer.specs.Answers.{refuse}
 use Rattle.netlist.specs.Words.{gatePlace}
-use Rattle.netlist.specs.Check.{wordsAnswer, wiresAnswer}
+use Rattle.netlist.specs.Check.{wordsAnswer}
 use Rattle.netlist.specs.Sound.{Limits}
 use Rattle.records.specs.declared.form.Form.{Form}
 use Rattle.records.specs.declared.marks.Walk.{Walk}
 use Rattle.records.specs.Bytes.{wordAt}
-use Rattle.records.specs.File.{byteN, byteG, byteO, markOf, headSize, outSize, inputsIn, gatesIn, outputsIn, sizeAt, startOf, operandAt, wordsIn, recordsAnswer}
-
--- records and rest, wires
-unfoldable pub bodyAnswer : Form → List ℕ → Answer
-bodyAnswer form s = recordsAnswer form s ▹ wiresAnswer 1 (wordsIn form s) (inputsIn s) (gatesIn s) (outputsIn s)
+use Rattle.records.specs.File.{byteN, byteG, byteO, markOf, headSize, outSize, countsIn, gatesIn, outputsIn, sizeAt, startOf, operandAt}
 
 -- the words of gate g and of output o, judged where they stand in the file
 unfoldable pub gateWire : Form → List ℕ → ℕ → ℕ → Answer
@@ -51,12 +48,12 @@ pub record Begun (s : List ℕ) (p letter size : ℕ) : Type 0 where
 -- what a file has whose header and counts are accepted
 pub record Headed (form : Form) (s : List ℕ) : Type 0 where
   pub head : Begun s 0 (markOf form) headSize
-  pub limits : Limits (inputsIn s) (gatesIn s) (outputsIn s)
+  pub limits : Limits (countsIn s)
 
 -- what a file has whose records are whole
 pub record Framed (form : Form) (s : List ℕ) : Type 0 where
   pub head : Begun s 0 (markOf form) headSize
-  pub limits : Limits (inputsIn s) (gatesIn s) (outputsIn s)
+  pub limits : Limits (countsIn s)
   pub gate : (g : ℕ) → g < gatesIn s → Begun s (startOf form s g) byteG (sizeAt form s (startOf form s g))
   pub out : (o : ℕ) → o < outputsIn s → Begun s (startOf form s (gatesIn s) + outSize * o) byteO outSize
   pub rest : length s ≤ startOf form s (gatesIn s) + outSize * outputsIn s

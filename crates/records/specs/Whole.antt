@@ -1,13 +1,18 @@
--- A gate's record, taken out of a file.
+-- Counts and gate records, taken out of a file: what is there, or 0 where not all of its bytes are.
 use Prim.Native.Nat.{ℕ, _+_}
 use mathlib.Core.Bool.{Bool}
 use mathlib.Core.List.{List}
 use lib.ListN.{length, getD}
 use lib.Dec.{leb}
 use Rattle.answer.specs.Choose.{choose}
+use Rattle.netlist.specs.declared.counts.Counts.{Counts}
 use Rattle.records.specs.declared.Quad.{Quad}
 use Rattle.records.specs.declared.form.Form.{Form}
-use Rattle.records.specs.File.{sizeAt, operandAt}
+use Rattle.records.specs.File.{headSize, countsIn, sizeAt, operandAt}
+
+-- the counts where the header's bytes are all there, else all 0
+unfoldable pub wholeCounts : List ℕ → Counts
+wholeCounts s = choose (leb headSize (length s)) (countsIn s) (record { inputs = 0; gates = 0; outputs = 0 })
 
 -- the gate record at p
 unfoldable pub quadIn : Form → List ℕ → ℕ → Quad
