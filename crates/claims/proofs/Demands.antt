@@ -185,12 +185,12 @@ glued-answers a b out x vals outs vals₂ outs₂ vals₃ outs₃ f bits hv ho h
     let G = gluedWords a b in
     let p = glue-accepts a b out g f in
     let first = outputs-front a a x x vals outs (outputsOf a) refl refl (outputs-count a x (f .first))
-        (ready-done a x (length vals) (length outs) record { sound = f .first; count = bits .size; bits = bits .bit; values = hv; outputs = ho }) u in
+    (ready-done a x (length vals) (length outs) record { sound = f .first; count = bits .size; bits = bits .bit; values = hv; outputs = ho }) u in
     let second = outputs-front b b _ (eval (netOf a) x) vals₂ outs₂ (outputsOf b) refl (first .1) (outputs-count b _ (f .second))
-        (second-ready a b n f x (length vals₂) (length outs₂) (bits .bit) hv₂ ho₂) v in
+    (second-ready a b n f x (length vals₂) (length outs₂) (bits .bit) hv₂ ho₂) v in
     let same = glued-evaluates a b n f x (bits .size) in
     let both = outputs-front _ G x x vals₃ outs₃ (outputsOf b) (front-of G out (length G) refl (p .1)) refl (ap length same ∙ outputs-count b _ (f .second))
-        (glued-ready a b n f x (length vals₃) (length outs₃) (bits .size) (bits .bit) hv₃ ho₃) w in
+    (glued-ready a b n f x (length vals₃) (length outs₃) (bits .size) (bits .bit) hv₃ ho₃) w in
     (p .0, first .0, second .0, both .0, both .1 ∙ same ∙ sym (second .1))
 
 -- Depth is at most the sum of the two depths; multiplications are exactly the sum.
