@@ -219,7 +219,7 @@ gained-le spot zero h = omega arith
 gained-le spot (suc g) h = omega (arith, gained-le spot g (λ k l. h k (omega arith)), h g (omega arith) .2)
 
 -- ---- for the turns of that loop: what is added fits, and so does the sum
-module _ {net ds : List ℕ} {n : ℕ} {ls : List Level} (t : Tallies net ds n ls) where
+module _ {net ds : List ℕ} {i n : ℕ} {ls : List Level} (t : Tallies net ds i n ls) where
   so-far : (g : ℕ) → g ≤ n → Countable (spotOf net ds) g (length ls)
   so-far g l =
       record { limit = omega (arith, t .countable .limit); slight = λ k q. t .countable .slight k (omega arith); low = λ k q. t .countable .low k (omega arith) }
@@ -242,8 +242,8 @@ module _ {net ds : List ℕ} {n : ℕ} {ls : List Level} (t : Tallies net ds n l
     gained-more = ap (λ (p : Spot). gained (spotOf net ds) g + p .multiplications) e ∙ sum-more _ g
 
 -- ---- for the levels cleared and then counted: the first leaves what the second asks, and both together count
-module _ {net ds : List ℕ} {g c : ℕ} {old : List Level} (s : Clears net ds g c old) {mid : List Level} (e : mid ≡ over (replicate c noGates) old) where
-  pub levels-stand : Tallies net ds g mid
+module _ {net ds : List ℕ} {i g c : ℕ} {old : List Level} (s : Clears net ds i g c old) {mid : List Level} (e : mid ≡ over (replicate c noGates) old) where
+  pub levels-stand : Tallies net ds i g mid
   levels-stand =
       let long : length mid ≡ length old = ap length e ∙ fill-length noGates old c (s .room) in
       record {

@@ -80,10 +80,10 @@ module _ {net ds : List ℕ} {p : Measured} {ds′ : List ℕ} (m : MeasuredAs n
     same-spot : (g : ℕ) → g < gatesOf net → spotOf net ds′ g ≡ spotOf net (depths (netOf net)) g
     same-spot g l = spot-agree net ds′ g (depths (netOf net)) (depth-at g l)
 
-    all-stand : (k : ℕ) → k < gatesOf net → Stands net ds′ k
+    all-stand : (k : ℕ) → k < gatesOf net → Stands net ds′ (inputsOf net) k
     all-stand k h =
         let long : length ds′ ≡ length ds = ap length stands ∙ length-over (depths (netOf net)) ds (omega (arith, depths-count net, lent .room)) in
-        (omega (arith, lent .sound .size), omega (arith, lent .room))
+        record { inputs = refl; word = omega (arith, lent .sound .size); wire = omega (arith, lent .room) }
 
     all-countable : Countable (spotOf net ds′) (gatesOf net) (levelCount (netOf net))
     all-countable =
@@ -94,7 +94,7 @@ module _ {net ds : List ℕ} {p : Measured} {ds′ : List ℕ} (m : MeasuredAs n
         }
 
     pub planned : (room : ℕ) {a : Answer} → a ≡ roomAnswer 3 room (p .levels) → a ≡ Done
-        → PlannedAs net ds room (record { answer = Done; depth = p .depth; gates = gatesOf net; levels = p .levels }) ds′
+        → PlannedAs net ds room (record { answer = Done; depth = p .depth; inputs = inputsOf net; gates = gatesOf net; levels = p .levels }) ds′
     unfolding meterAnswer levels
     planned room e h =
         record {

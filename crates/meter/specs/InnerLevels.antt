@@ -19,7 +19,7 @@ use Rattle.meter.specs.Meter.{depthsAnswer, meterAnswer}
 
 -- nothing to count after a refusal
 unfoldable pub noPlan : Answer → Plan
-noPlan a = record { answer = a; depth = 0; gates = 0; levels = 0 }
+noPlan a = record { answer = a; depth = 0; inputs = 0; gates = 0; levels = 0 }
 
 abbrev pub noGates : Level
 noGates = record { ands = 0; muxes = 0 }
@@ -41,9 +41,11 @@ tallied spot (suc n) ls = withSpot (spot n) (tallied spot n ls)
 abbrev pub gained : (ℕ → Spot) → ℕ → ℕ
 gained spot n = sumOf (λ g. spot g .multiplications) n
 
--- gate g's words and its depth stand
-abbrev pub Stands : List ℕ → List ℕ → ℕ → Type 0
-Stands net ds g = (gatePlace g < length net) × (inputsOf net + g < length ds)
+-- gate g's words and its depth stand, where i is the number of inputs
+pub record Stands (net ds : List ℕ) (i g : ℕ) : Type 0 where
+  pub inputs : i ≡ inputsOf net
+  pub word : gatePlace g < length net
+  pub wire : i + g < length ds
 
 -- a spot adds at most one gate of each of the two kinds
 abbrev pub Slight : Spot → Type 0
@@ -56,14 +58,14 @@ pub record Countable (spot : ℕ → Spot) (n c : ℕ) : Type 0 where
   pub low : (k : ℕ) → k < n → spot k .at < c
 
 -- the spots of n gates that stand, for the records ls, which count no gate where these are
-pub record Tallies (net ds : List ℕ) (n : ℕ) (ls : List Level) : Type 0 where
-  pub stands : (k : ℕ) → k < n → Stands net ds k
+pub record Tallies (net ds : List ℕ) (i n : ℕ) (ls : List Level) : Type 0 where
+  pub stands : (k : ℕ) → k < n → Stands net ds i k
   pub countable : Countable (spotOf net ds) n (length ls)
   pub none : (k : ℕ) → k < n → getD ls (spotOf net ds k .at) noGates ≡ noGates
 
 -- the same for c records that are still to be cleared, of those lent
-pub record Clears (net ds : List ℕ) (n c : ℕ) (ls : List Level) : Type 0 where
-  pub stands : (k : ℕ) → k < n → Stands net ds k
+pub record Clears (net ds : List ℕ) (i n c : ℕ) (ls : List Level) : Type 0 where
+  pub stands : (k : ℕ) → k < n → Stands net ds i k
   pub countable : Countable (spotOf net ds) n c
   pub room : c ≤ length ls
 
@@ -73,7 +75,7 @@ pub record PlannedAs (net ds : List ℕ) (room : ℕ) (p : Plan) (ds′ : List �
   pub answered : p .answer ≡ meterAnswer net (length ds) room
   pub deep : p .depth ≡ ifDone (p .answer) (depth (netOf net))
   pub filled : ds′ ≡ left (depthsAnswer net (length ds)) (depths (netOf net)) ds
-  pub stands : (k : ℕ) → k < p .gates → Stands net ds′ k
+  pub stands : (k : ℕ) → k < p .gates → Stands net ds′ (p .inputs) k
   pub countable : Countable (spotOf net ds′) (p .gates) (p .levels)
   pub fits : p .levels ≤ room
   pub multiply : gained (spotOf net ds′) (p .gates) ≡ ifDone (p .answer) (mults (netOf net))

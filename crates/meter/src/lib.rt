@@ -40,11 +40,12 @@ struct Measured {
     levels: usize,
 }
 
-// The answer and the netlist's depth, and how many gates are still to be counted in how many levels: none on
-// a refusal.
+// The answer and the netlist's depth, and how many gates, after how many inputs, are still to be counted in how
+// many levels: none on a refusal.
 struct Plan {
     answer: Answer,
     depth: u32,
+    inputs: usize,
     gates: usize,
     levels: usize,
 }
@@ -194,6 +195,7 @@ fn refused(answer: Answer) -> Plan
     Plan {
         answer,
         depth: 0,
+        inputs: 0,
         gates: 0,
         levels: 0,
     }
@@ -217,17 +219,17 @@ fn prepare(net: &[u32], depths: &mut [u32], room: usize) -> Plan
     Plan {
         answer: Answer::Done,
         depth: p.depth,
+        inputs: c.inputs as usize,
         gates: c.gates as usize,
         levels,
     }
 }
 
 // What gate g adds, and where.
-fn spot_of(net: &[u32], depths: &[u32], g: usize) -> Spot
-    requires { ⌜ Stands (now net) (now depths) g ⌝ }
+fn spot_of(net: &[u32], depths: &[u32], inputs: usize, g: usize) -> Spot
+    requires { ⌜ Stands (now net) (now depths) inputs g ⌝ }
     ensures { λ r. ⌜ r ≡ spotOf (now (net .entry)) (now (depths .entry)) g ⌝ }
 {
-    let inputs = net[0] as usize;
     let at = depths[inputs + g] as usize;
     let kind = net[HEADER_WORDS + GATE_STRIDE * g];
     let a = one_if(kind, AND_KIND);
@@ -253,14 +255,14 @@ fn clear_levels(levels: &mut [Level], count: usize)
 }
 
 // Counts the gates where their spots are, in one pass over levels that stand at 0, and sums up what multiplies.
-fn tally(net: &[u32], depths: &[u32], levels: &mut [Level], gates: usize) -> u32
-    requires { ⌜ Tallies (now net) (now depths) gates (now levels) ⌝ }
+fn tally(net: &[u32], depths: &[u32], levels: &mut [Level], inputs: usize, gates: usize) -> u32
+    requires { ⌜ Tallies (now net) (now depths) inputs gates (now levels) ⌝ }
     ensures { λ r. ⌜ (r ≡ gained (spotOf (now (net .entry)) (now (depths .entry))) gates) × (now (levels .exit) ≡ tallied (spotOf (now (net .entry)) (now (depths .entry))) gates (now (levels .entry))) ⌝ }
 {
     let mut n: u32 = 0;
     let mut g: usize = 0;
     while g < gates {
-        let s = spot_of(net, depths, g);
+        let s = spot_of(net, depths, inputs, g);
         let at = s.at;
         levels[at].ands += s.ands;
         levels[at].muxes += s.muxes;
@@ -271,12 +273,19 @@ fn tally(net: &[u32], depths: &[u32], levels: &mut [Level], gates: usize) -> u32
 }
 
 // The level records, cleared and counted, and what multiplies.
-fn put_levels(net: &[u32], depths: &[u32], levels: &mut [Level], gates: usize, count: usize) -> u32
-    requires { ⌜ Clears (now net) (now depths) gates count (now levels) ⌝ }
+fn put_levels(
+    net: &[u32],
+    depths: &[u32],
+    levels: &mut [Level],
+    inputs: usize,
+    gates: usize,
+    count: usize,
+) -> u32
+    requires { ⌜ Clears (now net) (now depths) inputs gates count (now levels) ⌝ }
     ensures { λ r. ⌜ (r ≡ gained (spotOf (now (net .entry)) (now (depths .entry))) gates) × (now (levels .exit) ≡ over (levelsBelow (spotOf (now (net .entry)) (now (depths .entry))) gates count) (now (levels .entry))) ⌝ }
 {
     clear_levels(levels, count);
-    tally(net, depths, levels, gates)
+    tally(net, depths, levels, inputs, gates)
 }
 
 // A refusal leaves no gate to count and no level to write: put_levels then keeps the list as it is.
@@ -284,7 +293,7 @@ pub fn meter(net: &[u32], depths: &mut [u32], levels: &mut [Level]) -> Metered
     ensures { λ r. ⌜ MeteredAs (now (net .entry)) (now (depths .entry)) (now (levels .entry)) r (now (depths .exit)) (now (levels .exit)) ⌝ }
 {
     let p = prepare(net, depths, levels.len());
-    let n = put_levels(net, depths, levels, p.gates, p.levels);
+    let n = put_levels(net, depths, levels, p.inputs, p.gates, p.levels);
     Metered {
         answer: p.answer,
         depth: p.depth,

@@ -35,7 +35,9 @@ mul-larger : tie.Need-mul-larger Inv-loop μ-loop
 mul-larger c = omega (arith, c .shared-slice-known3 .given (c .before .before .before .before .before .args .start + c .before .before .loop .o))
 
 shared-slice-read-larger : tie.Need-shared-slice-read-larger Inv-loop μ-loop
-shared-slice-read-larger c = c .before .before .before .before .before .before .pre .1 (c .before .before .before .loop .o) (c .before .before .loop-test .taken)
+shared-slice-read-larger c =
+    let t = c .before .before in
+    t .before .before .before .before .pre .1 (t .before .loop .o) (t .loop-test .taken)
 
 larger-requires : tie.Need-larger-requires Inv-loop μ-loop
 larger-requires c κs = search needs

@@ -162,21 +162,21 @@ module _ {M : Type 1} (𝓤 : URA M) (H : Heap 𝓤) (A : Atoms 𝓤) (W : Given
   Toks′ ν = ‵ (flft κ₀ q₀) ⊛ ‵ (flft (ν ∷ []) fullShare) ⊛ ‵ (flft κ₂ q₂) ⊛ ‵ ftrue
 
   abbrev GArg : Type 0
-  GArg = RefT (List ℕ) × (RefT (List ℕ) × (RefT (List Level) × (ℕ × (ℕ × Unit {0}))))
+  GArg = RefT (List ℕ) × (RefT (List ℕ) × (RefT (List Level) × (ℕ × (ℕ × (ℕ × Unit {0})))))
 
   abbrev g-args : GName → List ℕ → Plan → GArg
-  g-args δ zs r = (net, (x δ zs, (levels, (r .gates, (r .levels, tt)))))
+  g-args δ zs r = (net, (x δ zs, (levels, (r .inputs, (r .gates, (r .levels, tt))))))
 
   abbrev to-put : ℕ → GName → List ℕ → Plan → PutLevels 𝓤 H A mem run .Ghost
-  to-put ν δ zs r = (((κ₀, (ν ∷ [], (κ₂, tt))), (q₀, (fullShare, (q₂, tt))), tt, g-args δ zs r, (sn ∷ [], (s ∷ [], (sl ∷ [], (vint w64 (r .gates) ∷ [], (vint w64 (r .levels) ∷ [], tt)))))), tt)
+  to-put ν δ zs r = (((κ₀, (ν ∷ [], (κ₂, tt))), (q₀, (fullShare, (q₂, tt))), tt, g-args δ zs r, (sn ∷ [], (s ∷ [], (sl ∷ [], (vint w64 (r .inputs) ∷ [], (vint w64 (r .gates) ∷ [], (vint w64 (r .levels) ∷ [], tt))))))), tt)
 
-  module _ (zs : List ℕ) (r : Plan) (e : Planned r zs) (fits : (r .gates < 2 ^ 64) × (r .levels < 2 ^ 64)) where
+  module _ (zs : List ℕ) (r : Plan) (e : Planned r zs) (fits : (r .inputs < 2 ^ 64) × (r .gates < 2 ^ 64) × (r .levels < 2 ^ 64)) where
     goes-put : (ν : ℕ) (δ : GName) → ent 𝓤 (⋆ 𝓤 H A (Toks′ ν ∷ ‵ Net ∷ (‵ (ShrSlice (named 1) (ν ∷ []) u32 .own (x δ zs) (s ∷ [])) ⊛ ‵ Lev) ∷ [])) (sep 𝓤 (PutLevels 𝓤 H A mem run .pre (to-put ν δ zs r)) (sem 𝓤 H A Net))
     goes-put ν δ =
         qed W (Toks′ ν ∷ ‵ Net ∷ (‵ (ShrSlice (named 1) (ν ∷ []) u32 .own (x δ zs) (s ∷ [])) ⊛ ‵ Lev) ∷ []) ∵ move ! (1 ∷ []) $ use1 W (‵ Net ⊛ ‵ Net) (shr-slice-copy 𝓤 H A W (named 0) κ₀ u32 .twice net (sn ∷ [])) $ split ! $
         move ! (3 ∷ []) $ split ! $
         -- [depths; levels; net; net; tokens]
-        nothing ! $ owned ! usize (Is usize) (uint-makes 𝓤 H A W w64) (r .levels) _ (refl, fits .1) $ fjoin ! $ owned ! usize (Is usize) (uint-makes 𝓤 H A W w64) (r .gates) _ (refl, fits .0) $ fjoin ! $
+        nothing ! $ owned ! usize (Is usize) (uint-makes 𝓤 H A W w64) (r .levels) _ (refl, fits .2) $ fjoin ! $ owned ! usize (Is usize) (uint-makes 𝓤 H A W w64) (r .gates) _ (refl, fits .1) $ fjoin ! $ owned ! usize (Is usize) (uint-makes 𝓤 H A W w64) (r .inputs) _ (refl, fits .0) $ fjoin ! $
         move ! (2 ∷ 0 ∷ []) $ fjoin ! $ move ! (1 ∷ 0 ∷ []) $ fjoin ! $ move ! (1 ∷ 0 ∷ []) $ fjoin ! $ move ! (2 ∷ 0 ∷ []) $
         use2 W (raw (PutLevels 𝓤 H A mem run .pre (to-put ν δ zs r))) asks $ frame ! $ done !
       where
@@ -224,12 +224,12 @@ module _ {M : Type 1} (𝓤 : URA M) (H : Heap 𝓤) (A : Atoms 𝓤) (W : Given
         use2 W (later (some (λ (δ′ : GName). ‵ (ShrSlice (named 1) (μ ∷ []) u32 .own (x δ′ (z .1 .0)) (s ∷ [])) ⊛ ‵ (LentShared u32 κ₁ (μ ∷ []) q₁ γ b o (z .1 .0))))) (shares-again u32 κ₁ (μ ∷ []) q₁ γ b o 𝓤 H A W (named 1) (named 1) (z .1 .0) (length ys) l) $ await ! tt $ pick ! (λ δ′. split ! $
         -- [depths at μ; what is kept; μ; true; κ₀; r; …; …; net; κ₂; true; levels; true; _12; …]
         move ! (9 ∷ 3 ∷ []) $ join ! $ move ! (3 ∷ 0 ∷ []) $ join ! $ move ! (3 ∷ 0 ∷ []) $ join ! $ move ! (1 ∷ 8 ∷ []) $ join ! $ move ! (1 ∷ 6 ∷ 0 ∷ []) $
-        use3 W (raw (PutLevels 𝓤 H A mem run .pre (to-put μ δ′ (z .1 .0) r)) ⊛ ‵ Net) (goes-put (z .1 .0) r e (parts .1 .1 .0 .1, parts .1 .1 .1 .0 .1) μ δ′) $ split ! $
+        use3 W (raw (PutLevels 𝓤 H A mem run .pre (to-put μ δ′ (z .1 .0) r)) ⊛ ‵ Net) (goes-put (z .1 .0) r e (parts .1 .1 .0 .1, parts .1 .1 .1 .0 .1, parts .1 .1 .1 .1 .0 .1) μ δ′) $ split ! $
         -- [what put_levels asks; net; what is kept; r; …; …; true; true; _12; …]
         calls-at ! fm (PutLevels 𝓤 H A mem run) known′ (to-put μ δ′ (z .1 .0) r) (and-then ! (load ! (from ! (stop !)) (look ! 30 refl)) (and-then ! (load ! (from ! (stop !)) (look ! 12 refl)) (and-then ! (load ! (from ! (stop !)) (look ! 8 refl))
-        (and-then ! (load ! (from ! (fld ! refl (stop !))) (look-in ! 24 (sub ! 2 refl (whole !)))) (and-then ! (load ! (from ! (fld ! refl (stop !))) (look-in ! 24 (sub ! 3 refl (whole !)))) (no-more !)))))) (λ w′.
+        (and-then ! (load ! (from ! (fld ! refl (stop !))) (look-in ! 24 (sub ! 2 refl (whole !)))) (and-then ! (load ! (from ! (fld ! refl (stop !))) (look-in ! 24 (sub ! 3 refl (whole !)))) (and-then ! (load ! (from ! (fld ! refl (stop !))) (look-in ! 24 (sub ! 4 refl (whole !)))) (no-more !))))))) (λ w′.
         use1 W (later (some (λ (n : ℕ). (Toks′ μ ⊛ ‵ (u32 .own n (w′ ∷ []))) ⊛ raw (ensured 𝓤 H A g.ended (g.clauses 𝓤 H A mem run) (κ₀, (μ ∷ [], (κ₂, tt))) (g-args δ′ (z .1 .0) r) tt n)))) (id⊢ 𝓤 _) $ await ! tt $ pick ! (λ n.
-        split ! $ move ! (1 ∷ []) $ use1 W (some (λ (v : Unit {0} × (Unit {0} × (List Level × (Unit {0} × (Unit {0} × Unit {0}))))). ‵ (lasts g.ended (κ₀, (μ ∷ [], (κ₂, tt))) (g-args δ′ (z .1 .0) r) v) ⊛ raw (fact 𝓤 (Counted r (z .1 .0) n (v .1 .1 .0))))) (id⊢ 𝓤 _) $ pick ! (λ v.
+        split ! $ move ! (1 ∷ []) $ use1 W (some (λ (v : Unit {0} × (Unit {0} × (List Level × (Unit {0} × (Unit {0} × (Unit {0} × Unit {0})))))). ‵ (lasts g.ended (κ₀, (μ ∷ [], (κ₂, tt))) (g-args δ′ (z .1 .0) r) v) ⊛ raw (fact 𝓤 (Counted r (z .1 .0) n (v .1 .1 .0))))) (id⊢ 𝓤 _) $ pick ! (λ v.
         split ! $ move ! (1 ∷ []) $ heard ! (Counted r (z .1 .0) n (v .1 .1 .0)) (λ e′. fsplit ! $ move ! (1 ∷ []) $ fsplit ! $ move ! (1 ∷ []) $ fsplit ! $ fsplit ! $ move ! (1 ∷ []) $ feqL ! (λ l′.
         -- [levels' last list; …; …; …; tokens and result; net; what is kept; r; …; …; true; true; _12; …]
         move ! (4 ∷ []) $ split ! $ move ! (1 ∷ []) $ peeks ! u32 (Is u32) (shows 𝓤 H A u32) n (w′ ∷ []) (λ is′.

@@ -51,12 +51,15 @@ counts-of-requires c κs = search needs
 cast-t12 : tie.Need-cast-t12
 cast-t12 c = search needs
 
+cast-t13 : tie.Need-cast-t13
+cast-t13 c = search needs
+
 same-length-3 : tie.Need-same-length-3
 same-length-3 c = search needs
 
 returns-3 : tie.Need-returns-3
 returns-3 c =
-    let k = c .before in
+    let k = c .before .before in
     let r = k .before .before .before in
     rw (k .counts-of .ensures)
     (planned (from-room r .measure .ensures) (r .before .enum-told .given .1) _ (r .room .ensures) (k .before .enum-told3 .given .1))
@@ -79,5 +82,6 @@ prepare-spec =
     returns-2
     counts-of-requires
     cast-t12
+    cast-t13
     same-length-3
     returns-3)

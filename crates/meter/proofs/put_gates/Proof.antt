@@ -1,4 +1,4 @@
-use Prim.Native.Nat.{_≤_, _-_, _+_}
+use Prim.Native.Nat.{ℕ, _≤_, _-_, _+_}
 use mathlib.Core.Path.{_≡_}
 use native.Mathlib.Nat.{le-antisymm}
 use native.Mathlib.Omega.{arith}
@@ -17,13 +17,23 @@ Inv-loop net depths₀ inputs gates g₀ depths g = (g ≤ gates) × (length dep
 abbrev μ-loop : tie.MeasureT-loop
 μ-loop net depths₀ inputs gates g₀ depths g = gates - g
 
+-- The turn in which a gate's words were all read; its gate; what was lent, and what was asked of it.
+abbrev turn : tie.After-shared-slice-known5 Inv-loop μ-loop → tie.In-loop Inv-loop μ-loop
+turn c = c .before .before .before .before
+
+abbrev number : tie.In-loop Inv-loop μ-loop → ℕ
+number c = c .before .loop .g
+
+abbrev start : tie.In-loop Inv-loop μ-loop → tie.Start Inv-loop μ-loop
+start c = c .before .before .before .before
+
 -- no operand word is past the gate's own wire
 low : (c : tie.In-loop Inv-loop μ-loop) →
-    let l = c .before .loop in
-    let a = c .before .before .before .before .args in
-    let w = a .inputs + l .g in
-    (getD (a .net .now) (gatePlace (l .g) + 1) 0 ≤ w) × (getD (a .net .now) (gatePlace (l .g) + 2) 0 ≤ w) × (getD (a .net .now) (gatePlace (l .g) + 3) 0 ≤ w)
-low c = operands (c .before .before .before .before .pre .0) (c .before .before .before .before .pre .1) _ (c .loop-test .taken) (c .before .loop .inv .2)
+    let net = start c .args .net .now in
+    let at = gatePlace (number c) in
+    let w = start c .args .inputs + number c in
+    (getD net (at + 1) 0 ≤ w) × (getD net (at + 2) 0 ≤ w) × (getD net (at + 3) 0 ≤ w)
+low c = operands (start c .pre .0) (start c .pre .1) _ (c .loop-test .taken) (c .before .loop .inv .2)
 
 loop-holds : tie.Need-loop-holds Inv-loop μ-loop
 loop-holds c = (search needs, search needs, gates-start (c .before .before .pre .0) (c .before .before .pre .1))
@@ -74,31 +84,31 @@ shared-slice-read-k : tie.Need-shared-slice-read-k Inv-loop μ-loop
 shared-slice-read-k c = search needs
 
 cast-k : tie.Need-cast-k Inv-loop μ-loop
-cast-k c = omega (arith, low (c .before .before .before .before))
+cast-k c = omega (arith, low (turn c))
 
 mul-gate-depth : tie.Need-mul-gate-depth Inv-loop μ-loop
-mul-gate-depth c = omega (arith, low (c .before .before .before .before))
+mul-gate-depth c = omega (arith, low (turn c))
 
 slice-read-gate-depth : tie.Need-slice-read-gate-depth Inv-loop μ-loop
-slice-read-gate-depth c = omega (arith, low (c .before .before .before .before .before))
+slice-read-gate-depth c = omega (arith, low (turn (c .before)))
 
 mul-gate-depth-2 : tie.Need-mul-gate-depth-2 Inv-loop μ-loop
-mul-gate-depth-2 c = omega (arith, low (c .before .before .before .before .before))
+mul-gate-depth-2 c = omega (arith, low (turn (c .before)))
 
 slice-read-gate-depth-2 : tie.Need-slice-read-gate-depth-2 Inv-loop μ-loop
-slice-read-gate-depth-2 c = omega (arith, low (c .before .before .before .before .before .before))
+slice-read-gate-depth-2 c = omega (arith, low (turn (c .before .before)))
 
 mul-gate-depth-3 : tie.Need-mul-gate-depth-3 Inv-loop μ-loop
-mul-gate-depth-3 c = omega (arith, low (c .before .before .before .before .before .before))
+mul-gate-depth-3 c = omega (arith, low (turn (c .before .before)))
 
 slice-read-gate-depth-3 : tie.Need-slice-read-gate-depth-3 Inv-loop μ-loop
-slice-read-gate-depth-3 c = omega (arith, low (c .before .before .before .before .before .before .before))
+slice-read-gate-depth-3 c = omega (arith, low (turn (c .before .before .before)))
 
 gate-depth-requires : tie.Need-gate-depth-requires Inv-loop μ-loop
 gate-depth-requires c κs =
-    let t = c .before .before .before .before .before .before .before in
-    let p = t .before .before .before .before .pre in
-    (kind (p .0) (p .1) (t .before .loop .g) (t .loop-test .taken) (t .before .loop .inv .2), gate-low (p .0) (p .1) (t .before .loop .g) (t .loop-test .taken) (t .before .loop .inv .2))
+    let t = turn (c .before .before .before) in
+    let p = start t .pre in
+    (kind (p .0) (p .1) (number t) (t .loop-test .taken) (t .before .loop .inv .2), gate-low (p .0) (p .1) (number t) (t .loop-test .taken) (t .before .loop .inv .2))
 
 add-wire : tie.Need-add-wire Inv-loop μ-loop
 add-wire c = search needs
@@ -117,9 +127,9 @@ loop-less c = search needs
 
 loop-again : tie.Need-loop-again Inv-loop μ-loop
 loop-again c =
-    let t = c .before .before .before .before .before .before .before .before in
-    let p = t .before .before .before .before .pre in
-    (search needs, search needs, gate-more (p .0) (p .1) (t .before .loop .g) (t .loop-test .taken) (t .before .loop .inv .2) (c .gate-depth .ensures))
+    let t = turn (c .before .before .before .before) in
+    let p = start t .pre in
+    (search needs, search needs, gate-more (p .0) (p .1) (number t) (t .loop-test .taken) (t .before .loop .inv .2) (c .gate-depth .ensures))
 
 same-length : tie.Need-same-length Inv-loop μ-loop
 same-length c = c .before .loop .inv .1

@@ -63,7 +63,7 @@ stayed = (
     stay-none-slice (1 ∷ []) tt (plain (λ _. u32)) yes,
     (
       gave-slice (2 ∷ []) tt (plain (λ _. T.the-row)),
-      (stay-none (λ _. usize) yes, (stay-none (λ _. usize) yes, tt)),
+      (stay-none (λ _. usize) yes, (stay-none (λ _. usize) yes, (stay-none (λ _. usize) yes, tt))),
     ),
   ),
 )
@@ -76,18 +76,18 @@ abbrev Tally : {M : Type 1} (𝓤 : URA M) (H : Heap 𝓤) (A : Atoms 𝓤) (mem
 Tally 𝓤 H A mem run = tripleOf 𝓤 H A g.signature (g.spec 𝓤 H A mem run)
 
 module _ {M : Type 1} (𝓤 : URA M) (H : Heap 𝓤) (A : Atoms 𝓤) (W : Given 𝓤 H A) (mem : Memory → SProp 𝓤) (run : Routine → Fun 𝓤) (κ₀ κ₁ κ₂ : Lft) (q₀ q₁ q₂ : Share)
-    (net ds : RefT (List ℕ)) (b o : ℕ) (γ : GName) (olds : List Level) (gates count : ℕ)
-    (gates-fits : gates < 2 ^ 64) (count-fits : count < 2 ^ 64) (net-room : Room u32 (length (net .now))) (ds-room : Room u32 (length (ds .now))) (room : Room T.the-row (length olds))
-    (asks : Clears (net .now) (ds .now) gates count olds) where
+    (net ds : RefT (List ℕ)) (b o : ℕ) (γ : GName) (olds : List Level) (inputs gates count : ℕ)
+    (inputs-fits : inputs < 2 ^ 64) (gates-fits : gates < 2 ^ 64) (count-fits : count < 2 ^ 64) (net-room : Room u32 (length (net .now))) (ds-room : Room u32 (length (ds .now))) (room : Room T.the-row (length olds))
+    (asks : Clears (net .now) (ds .now) inputs gates count olds) where
   -- levels, under the name δ at the list l
   abbrev x : GName → List Level → RefT (List Level)
   x δ l = record { ptr = (b, o); name = δ; now = l }
 
   abbrev Arg : Type 0
-  Arg = RefT (List ℕ) × (RefT (List ℕ) × (RefT (List Level) × (ℕ × (ℕ × Unit {0}))))
+  Arg = RefT (List ℕ) × (RefT (List ℕ) × (RefT (List Level) × (ℕ × (ℕ × (ℕ × Unit {0})))))
 
   abbrev a : Arg
-  a = (net, (ds, (x γ olds, (gates, (count, tt)))))
+  a = (net, (ds, (x γ olds, (inputs, (gates, (count, tt))))))
 
   -- the machine values
   abbrev sn : Val
@@ -99,8 +99,8 @@ module _ {M : Type 1} (𝓤 : URA M) (H : Heap 𝓤) (A : Atoms 𝓤) (W : Given
   abbrev s : Val
   s = sliceVal (b, o) (length olds)
 
-  abbrev vals : List Val × (List Val × (List Val × (List Val × (List Val × Unit {0}))))
-  vals = (sn ∷ [], (sd ∷ [], (s ∷ [], (vint w64 gates ∷ [], (vint w64 count ∷ [], tt)))))
+  abbrev vals : List Val × (List Val × (List Val × (List Val × (List Val × (List Val × Unit {0})))))
+  vals = (sn ∷ [], (sd ∷ [], (s ∷ [], (vint w64 inputs ∷ [], (vint w64 gates ∷ [], (vint w64 count ∷ [], tt))))))
 
   abbrev Post : Val → SProp 𝓤
   Post = walkOf 𝓤 H A f.ended stayed (f.clauses 𝓤 H A mem run) .post (((κ₀, (κ₁, (κ₂, tt))), (q₀, (q₁, (q₂, tt))), tt, a, vals), tt)
@@ -128,10 +128,10 @@ module _ {M : Type 1} (𝓤 : URA M) (H : Heap 𝓤) (A : Atoms 𝓤) (W : Given
       → ent 𝓤 (⋆ 𝓤 H A (‵ (u32 .own n (w ∷ [])) ∷ Toks ∷ ‵ (finally T.the-row γ ws) ∷ (‵ Net ⊛ ‵ Ds) ∷ [])) (Post w)
   exits n w zs ws e e′ l =
       qed W (‵ (u32 .own n (w ∷ [])) ∷ Toks ∷ ‵ (finally T.the-row γ ws) ∷ (‵ Net ⊛ ‵ Ds) ∷ []) ∵
-      suffices ! _ (ends-at 𝓤 H A f.ended stayed (f.clauses 𝓤 H A mem run) W (((κ₀, (κ₁, (κ₂, tt))), (q₀, (q₁, (q₂, tt))), tt, a, vals), tt) w n (tt, (tt, (ws, (tt, (tt, tt))))) (tt, (tt, (l, (tt, (tt, tt)))))) $
+      suffices ! _ (ends-at 𝓤 H A f.ended stayed (f.clauses 𝓤 H A mem run) W (((κ₀, (κ₁, (κ₂, tt))), (q₀, (q₁, (q₂, tt))), tt, a, vals), tt) w n (tt, (tt, (ws, (tt, (tt, (tt, tt)))))) (tt, (tt, (l, (tt, (tt, (tt, tt))))))) $
       says ! (e′ .0, both-count asks e (e′ .1)) $ move ! (1 ∷ []) $ frame ! $ move ! (1 ∷ 2 ∷ []) $
       -- [levels' last list; net and ds; the result's]: the parameters, from the last
-      nothing ! $ owned ! usize (Is usize) (uint-makes 𝓤 H A W w64) count _ (refl, count-fits) $ fjoin ! $ owned ! usize (Is usize) (uint-makes 𝓤 H A W w64) gates _ (refl, gates-fits) $ fjoin ! $
+      nothing ! $ owned ! usize (Is usize) (uint-makes 𝓤 H A W w64) count _ (refl, count-fits) $ fjoin ! $ owned ! usize (Is usize) (uint-makes 𝓤 H A W w64) gates _ (refl, gates-fits) $ fjoin ! $ owned ! usize (Is usize) (uint-makes 𝓤 H A W w64) inputs _ (refl, inputs-fits) $ fjoin ! $
       move ! (1 ∷ 0 ∷ []) $ fjoin ! $ move ! (1 ∷ []) $ split ! $ move ! (1 ∷ 2 ∷ []) $ fjoin ! $ move ! (1 ∷ 0 ∷ []) $ fjoin ! $ frame ! $ done !
 
   -- ---- the call of `clear_levels`: levels lent again for ν, under the name δ
@@ -158,78 +158,78 @@ module _ {M : Type 1} (𝓤 : URA M) (H : Heap 𝓤) (A : Atoms 𝓤) (W : Given
 
   -- ---- the call of `tally`: levels given up at the list zs, a copy of what the two `&` own kept
   abbrev GArg : Type 0
-  GArg = RefT (List ℕ) × (RefT (List ℕ) × (RefT (List Level) × (ℕ × Unit {0})))
+  GArg = RefT (List ℕ) × (RefT (List ℕ) × (RefT (List Level) × (ℕ × (ℕ × Unit {0}))))
 
   abbrev g-args : List Level → GArg
-  g-args zs = (net, (ds, (x γ zs, (gates, tt))))
+  g-args zs = (net, (ds, (x γ zs, (inputs, (gates, tt)))))
 
   abbrev to-tally : List Level → Tally 𝓤 H A mem run .Ghost
-  to-tally zs = (((κ₀, (κ₁, (κ₂, tt))), (q₀, (q₁, (q₂, tt))), tt, g-args zs, (sn ∷ [], (sd ∷ [], (s ∷ [], (vint w64 gates ∷ [], tt))))), tt)
+  to-tally zs = (((κ₀, (κ₁, (κ₂, tt))), (q₀, (q₁, (q₂, tt))), tt, g-args zs, (sn ∷ [], (sd ∷ [], (s ∷ [], (vint w64 inputs ∷ [], (vint w64 gates ∷ [], tt)))))), tt)
 
   goes-tally : (zs : List Level) → Cleared zs → ent 𝓤 (⋆ 𝓤 H A (Toks ∷ (‵ Net ⊛ ‵ Ds) ∷ ‵ (Lev zs) ∷ [])) (sep 𝓤 (Tally 𝓤 H A mem run .pre (to-tally zs)) (sep 𝓤 (sem 𝓤 H A Net) (sem 𝓤 H A Ds)))
   goes-tally zs e =
       qed W (Toks ∷ (‵ Net ⊛ ‵ Ds) ∷ ‵ (Lev zs) ∷ []) ∵ move ! (1 ∷ []) $ split ! $ use1 W (‵ Net ⊛ ‵ Net) (shr-slice-copy 𝓤 H A W (named 0) κ₀ u32 .twice net (sn ∷ [])) $ split ! $
       move ! (2 ∷ []) $ use1 W (‵ Ds ⊛ ‵ Ds) (shr-slice-copy 𝓤 H A W (named 1) κ₁ u32 .twice ds (sd ∷ [])) $ split ! $
       -- [ds; ds; net; net; tokens; levels]
-      nothing ! $ owned ! usize (Is usize) (uint-makes 𝓤 H A W w64) gates _ (refl, gates-fits) $ fjoin ! $ move ! (6 ∷ 0 ∷ []) $ fjoin ! $ move ! (1 ∷ 0 ∷ []) $ fjoin ! $ move ! (2 ∷ 0 ∷ []) $ fjoin ! $
+      nothing ! $ owned ! usize (Is usize) (uint-makes 𝓤 H A W w64) gates _ (refl, gates-fits) $ fjoin ! $ owned ! usize (Is usize) (uint-makes 𝓤 H A W w64) inputs _ (refl, inputs-fits) $ fjoin ! $ move ! (6 ∷ 0 ∷ []) $ fjoin ! $ move ! (1 ∷ 0 ∷ []) $ fjoin ! $ move ! (2 ∷ 0 ∷ []) $ fjoin ! $
       move ! (3 ∷ 0 ∷ []) $ use2 W (raw (Tally 𝓤 H A mem run .pre (to-tally zs))) asked $ frame ! $ move ! (1 ∷ 0 ∷ []) $ done !
     where
       asked : ent 𝓤 (onEntry 𝓤 H A g.signature (κ₀, (κ₁, (κ₂, tt))) (q₀, (q₁, (q₂, tt))) (g-args zs) (to-tally zs .0 .4)) (Tally 𝓤 H A mem run .pre (to-tally zs))
       asked = qed W (raw (onEntry 𝓤 H A g.signature (κ₀, (κ₁, (κ₂, tt))) (q₀, (q₁, (q₂, tt))) (g-args zs) (to-tally zs .0 .4)) ∷ []) ∵ says ! (levels-stand asks e) $ done !
 
   module _ (C : Calls 𝓤 H) (Λ : Loops 𝓤 H) (fm : FmC 𝓤 H (W .laws) C) (known : Triple 𝓤 (C #meter·clear-levels) (Clear 𝓤 H A mem run)) (known′ : Triple 𝓤 (C #meter·tally) (Tally 𝓤 H A mem run)) where
-    walk : ent 𝓤 (onEntry 𝓤 H A f.signature (κ₀, (κ₁, (κ₂, tt))) (q₀, (q₁, (q₂, tt))) a vals) (WpFn 𝓤 H C Λ code.function (sn ∷ sd ∷ s ∷ vint w64 gates ∷ vint w64 count ∷ []) Post)
+    walk : ent 𝓤 (onEntry 𝓤 H A f.signature (κ₀, (κ₁, (κ₂, tt))) (q₀, (q₁, (q₂, tt))) a vals) (WpFn 𝓤 H C Λ code.function (sn ∷ sd ∷ s ∷ vint w64 inputs ∷ vint w64 gates ∷ vint w64 count ∷ []) Post)
     walk =
-        qed W (Toks ∷ ‵ (owns (ShrSlice (named 0) κ₀ u32 ∷ ShrSlice (named 1) κ₁ u32 ∷ MutSlice (named 2) κ₂ T.the-row ∷ usize ∷ usize ∷ []) a vals) ∷ []) ∵
-        enter ! C Λ code.function (sn ∷ sd ∷ s ∷ vint w64 gates ∷ vint w64 count ∷ []) _ $
-        alloc1 ! (λ l₀. alloc1 ! (λ l₁. alloc1 ! (λ l₂. alloc1 ! (λ l₃. alloc1 ! (λ l₄. alloc1 ! (λ l₅. alloc1 ! (λ l₆. alloc1 ! (λ l₇. alloc1 ! (λ l₈. alloc1 ! (λ l₉. alloc1 ! (λ l₁₀. alloc0 ! $ params1 ! $
-        pass1 ! (init ! 18 refl (tt, (tt, (record { fits = net-room .0 }, tt)))) $ pass1 ! (init ! 16 refl (tt, (tt, (record { fits = ds-room .0 }, tt)))) $ pass1 ! (init ! 14 refl (tt, (tt, (record { fits = room .0 }, tt)))) $
-        pass1 ! (init ! 12 refl (tt, record { fits = gates-fits })) $ pass1 ! (init ! 10 refl (tt, record { fits = count-fits })) $ pass0 ! $
-        -- _7 = &mut *levels.0; _8 = its slice
-        assigns ! (addr ! (from ! (fld ! refl (hop ! (look-in ! 14 (sub ! 0 refl (whole !))) (stop !))))) (from ! (stop !)) (init ! 6 refl (tt, tt)) $
-        assigns ! (agg ! (and-then ! (load ! (from ! (stop !)) (look ! 6 refl)) (and-then ! (load ! (from ! (fld ! refl (stop !))) (look-in ! 14 (sub ! 1 refl (whole !)))) (no-more !)))) (from ! (stop !)) (init ! 4 refl (tt, (tt, (record { fits = room .0 }, tt)))) $
-        move ! (23 ∷ []) $ fsplit ! $ move ! (1 ∷ []) $ fsplit ! $ move ! (1 ∷ []) $ fsplit ! $ move ! (26 ∷ []) $ split ! $ move ! (1 ∷ []) $ split ! $ move ! (1 ∷ []) $ split ! $
-        -- [κ₂; true; κ₁; κ₀; levels; the numbers; ds; net; _10; …]: levels is lent again, for a lifetime ν of the call
+        qed W (Toks ∷ ‵ (owns (ShrSlice (named 0) κ₀ u32 ∷ ShrSlice (named 1) κ₁ u32 ∷ MutSlice (named 2) κ₂ T.the-row ∷ usize ∷ usize ∷ usize ∷ []) a vals) ∷ []) ∵
+        enter ! C Λ code.function (sn ∷ sd ∷ s ∷ vint w64 inputs ∷ vint w64 gates ∷ vint w64 count ∷ []) _ $
+        alloc1 ! (λ l₀. alloc1 ! (λ l₁. alloc1 ! (λ l₂. alloc1 ! (λ l₃. alloc1 ! (λ l₄. alloc1 ! (λ l₅. alloc1 ! (λ l₆. alloc1 ! (λ l₇. alloc1 ! (λ l₈. alloc1 ! (λ l₉. alloc1 ! (λ l₁₀. alloc1 ! (λ l₁₁. alloc0 ! $ params1 ! $
+        pass1 ! (init ! 20 refl (tt, (tt, (record { fits = net-room .0 }, tt)))) $ pass1 ! (init ! 18 refl (tt, (tt, (record { fits = ds-room .0 }, tt)))) $ pass1 ! (init ! 16 refl (tt, (tt, (record { fits = room .0 }, tt)))) $
+        pass1 ! (init ! 14 refl (tt, record { fits = inputs-fits })) $ pass1 ! (init ! 12 refl (tt, record { fits = gates-fits })) $ pass1 ! (init ! 10 refl (tt, record { fits = count-fits })) $ pass0 ! $
+        -- _8 = &mut *levels.0; _9 = its slice
+        assigns ! (addr ! (from ! (fld ! refl (hop ! (look-in ! 16 (sub ! 0 refl (whole !))) (stop !))))) (from ! (stop !)) (init ! 6 refl (tt, tt)) $
+        assigns ! (agg ! (and-then ! (load ! (from ! (stop !)) (look ! 6 refl)) (and-then ! (load ! (from ! (fld ! refl (stop !))) (look-in ! 16 (sub ! 1 refl (whole !)))) (no-more !)))) (from ! (stop !)) (init ! 4 refl (tt, (tt, (record { fits = room .0 }, tt)))) $
+        move ! (25 ∷ []) $ fsplit ! $ move ! (1 ∷ []) $ fsplit ! $ move ! (1 ∷ []) $ fsplit ! $ move ! (28 ∷ []) $ split ! $ move ! (1 ∷ []) $ split ! $ move ! (1 ∷ []) $ split ! $
+        -- [κ₂; true; κ₁; κ₀; levels; the numbers; ds; net; _11; …]: levels is lent again, for a lifetime ν of the call
         lft-new ! tt (λ ν. move ! (5 ∷ 1 ∷ []) $
         use2 W (later (some (λ (δ : GName). ‵ (MutSlice (named 0) (ν ∷ []) T.the-row .own (x δ olds) (s ∷ [])) ⊛ ‵ (LentAgain T.the-row κ₂ (ν ∷ []) q₂ γ b o δ olds)))) (lends-again T.the-row κ₂ (ν ∷ []) q₂ γ b o 𝓤 H A W (named 2) (named 0) olds) $ await ! tt $ pick ! (λ δ. split ! $
-        -- [levels at ν; what is kept; ν; true; κ₁; κ₀; the numbers; ds; net; _10; …]
+        -- [levels at ν; what is kept; ν; true; κ₁; κ₀; the numbers; ds; net; _11; …]
         move ! (2 ∷ 3 ∷ []) $ join ! $ use2 W (raw (Clear 𝓤 H A mem run .pre (to-clear ν δ))) (goes-clear ν δ) $
-        -- [what clear_levels asks; what is kept; κ₁; κ₀; the numbers; ds; net; _10; …]
+        -- [what clear_levels asks; what is kept; κ₁; κ₀; the numbers; ds; net; _11; …]
         calls-at ! fm (Clear 𝓤 H A mem run) known (to-clear ν δ) (and-then ! (load ! (from ! (stop !)) (look ! 11 refl)) (and-then ! (load ! (from ! (stop !)) (look ! 17 refl)) (no-more !))) (λ w.
         use1 W (later (some (λ (u : Unit {0}). (Tok ν ⊛ ‵ (unit .own u (w ∷ []))) ⊛ raw (ensured 𝓤 H A c.ended (c.clauses 𝓤 H A mem run) (ν ∷ [], tt) (c-args δ) tt u)))) (id⊢ 𝓤 _) $ await ! tt $ pick ! (λ u.
         split ! $ move ! (1 ∷ []) $ use1 W (some (λ (z : List Level × (Unit {0} × Unit {0})). ‵ (lasts c.ended (ν ∷ [], tt) (c-args δ) z) ⊛ raw (fact 𝓤 (Cleared (z .0))))) (id⊢ 𝓤 _) $ pick ! (λ z.
         split ! $ move ! (1 ∷ []) $ heard ! (Cleared (z .0)) (λ e. fsplit ! $ fsplit ! $ move ! (1 ∷ []) $ feqL ! (λ l.
-        -- [levels' last list; …; token and result; what is kept; κ₁; κ₀; the numbers; ds; net; _10; …]
+        -- [levels' last list; …; token and result; what is kept; κ₁; κ₀; the numbers; ds; net; _11; …]
         move ! (2 ∷ []) $ split ! $ move ! (1 ∷ []) $ peeks ! unit (Is unit) (shows 𝓤 H A unit) u (w ∷ []) (λ is.
         land ! (from ! (stop !)) (init ! 18 refl (nothing-lawful 𝓤 H A W .typed u _ is .0)) $
         -- ν is ended, and levels comes back
         move ! (1 ∷ []) $ split ! $ lft-end ! tt $ move ! (0 ∷ 5 ∷ 3 ∷ []) $
         use3 W (later (‵ (Lev (z .0)) ⊛ ‵ (flft κ₂ q₂))) (comes-back T.the-row κ₂ (ν ∷ []) q₂ γ b o 𝓤 H A W (named 2) (named 0) olds δ (z .0) room l) $ await ! tt $ split ! $
-        -- [levels; κ₂; true; …; …; κ₁; κ₀; the numbers; ds; net; _10; …]
-        assigns ! (addr ! (from ! (fld ! refl (hop ! (look-in ! 24 (sub ! 0 refl (whole !))) (stop !))))) (from ! (stop !)) (init ! 12 refl (tt, tt)) $
-        assigns ! (agg ! (and-then ! (load ! (from ! (stop !)) (look ! 12 refl)) (and-then ! (load ! (from ! (fld ! refl (stop !))) (look-in ! 24 (sub ! 1 refl (whole !)))) (no-more !)))) (from ! (stop !)) (init ! 10 refl (tt, (tt, (record { fits = room .0 }, tt)))) $
+        -- [levels; κ₂; true; …; …; κ₁; κ₀; the numbers; ds; net; _11; …]
+        assigns ! (addr ! (from ! (fld ! refl (hop ! (look-in ! 26 (sub ! 0 refl (whole !))) (stop !))))) (from ! (stop !)) (init ! 12 refl (tt, tt)) $
+        assigns ! (agg ! (and-then ! (load ! (from ! (stop !)) (look ! 12 refl)) (and-then ! (load ! (from ! (fld ! refl (stop !))) (look-in ! 26 (sub ! 1 refl (whole !)))) (no-more !)))) (from ! (stop !)) (init ! 10 refl (tt, (tt, (record { fits = room .0 }, tt)))) $
         move ! (1 ∷ 2 ∷ []) $ join ! $ move ! (4 ∷ 0 ∷ []) $ join ! $ move ! (4 ∷ 0 ∷ []) $ join ! $ move ! (6 ∷ 5 ∷ []) $ join ! $ move ! (1 ∷ 0 ∷ 2 ∷ []) $
         use3 W (raw (Tally 𝓤 H A mem run .pre (to-tally (z .0))) ⊛ (‵ Net ⊛ ‵ Ds)) (goes-tally (z .0) e) $ split ! $
-        -- [what tally asks; net and ds; …; …; the numbers; _10; …]
-        calls-at ! fm (Tally 𝓤 H A mem run) known′ (to-tally (z .0)) (and-then ! (load ! (from ! (stop !)) (look ! 23 refl)) (and-then ! (load ! (from ! (stop !)) (look ! 21 refl)) (and-then ! (load ! (from ! (stop !)) (look ! 5 refl)) (and-then ! (load ! (from ! (stop !)) (look ! 17 refl)) (no-more !))))) (λ w′.
+        -- [what tally asks; net and ds; …; …; the numbers; _11; …]
+        calls-at ! fm (Tally 𝓤 H A mem run) known′ (to-tally (z .0)) (and-then ! (load ! (from ! (stop !)) (look ! 25 refl)) (and-then ! (load ! (from ! (stop !)) (look ! 23 refl)) (and-then ! (load ! (from ! (stop !)) (look ! 5 refl)) (and-then ! (load ! (from ! (stop !)) (look ! 19 refl)) (and-then ! (load ! (from ! (stop !)) (look ! 17 refl)) (no-more !)))))) (λ w′.
         use1 W (later (some (λ (n : ℕ). (Toks ⊛ ‵ (u32 .own n (w′ ∷ []))) ⊛ raw (ensured 𝓤 H A g.ended (g.clauses 𝓤 H A mem run) (κ₀, (κ₁, (κ₂, tt))) (g-args (z .0)) tt n)))) (id⊢ 𝓤 _) $ await ! tt $ pick ! (λ n.
-        split ! $ move ! (1 ∷ []) $ use1 W (some (λ (v : Unit {0} × (Unit {0} × (List Level × (Unit {0} × Unit {0})))). ‵ (lasts g.ended (κ₀, (κ₁, (κ₂, tt))) (g-args (z .0)) v) ⊛ raw (fact 𝓤 (Tallied (z .0) n (v .1 .1 .0))))) (id⊢ 𝓤 _) $ pick ! (λ v.
+        split ! $ move ! (1 ∷ []) $ use1 W (some (λ (v : Unit {0} × (Unit {0} × (List Level × (Unit {0} × (Unit {0} × Unit {0}))))). ‵ (lasts g.ended (κ₀, (κ₁, (κ₂, tt))) (g-args (z .0)) v) ⊛ raw (fact 𝓤 (Tallied (z .0) n (v .1 .1 .0))))) (id⊢ 𝓤 _) $ pick ! (λ v.
         split ! $ move ! (1 ∷ []) $ heard ! (Tallied (z .0) n (v .1 .1 .0)) (λ e′. fsplit ! $ move ! (1 ∷ []) $ fsplit ! $ move ! (1 ∷ []) $ fsplit ! $ fsplit ! $ move ! (1 ∷ []) $ feqL ! (λ l′.
-        -- [levels' last list; …; …; …; tokens and result; net and ds; …; …; the numbers; _10; …]
+        -- [levels' last list; …; …; …; tokens and result; net and ds; …; …; the numbers; _11; …]
         move ! (4 ∷ []) $ split ! $ move ! (1 ∷ []) $ peeks ! u32 (Is u32) (shows 𝓤 H A u32) n (w′ ∷ []) (λ is′.
-        land ! (from ! (stop !)) (init ! 30 refl (uint-lawful 𝓤 H A W w32 .typed n _ is′ .0)) $
-        returns ! (look ! 30 refl) $ forget ! 10 refl $ forget ! 12 refl $ forget ! 14 refl $ forget ! 16 refl $ forget ! 18 refl $ forget ! 20 refl $ forget ! 22 refl $ forget ! 24 refl $ forget ! 26 refl $ forget ! 28 refl $ forget ! 30 refl $
-        move ! (30 ∷ 31 ∷ []) $ free1 ! $ move ! (28 ∷ 29 ∷ []) $ free1 ! $ move ! (26 ∷ 27 ∷ []) $ free1 ! $ move ! (24 ∷ 25 ∷ []) $ free1 ! $ move ! (22 ∷ 23 ∷ []) $ free1 ! $ move ! (20 ∷ 21 ∷ []) $ free1 ! $ move ! (18 ∷ 19 ∷ []) $ free1 ! $ move ! (16 ∷ 17 ∷ []) $ free1 ! $ move ! (14 ∷ 15 ∷ []) $ free1 ! $ move ! (12 ∷ 13 ∷ []) $ free1 ! $ move ! (10 ∷ 11 ∷ []) $ free1 ! $ free0 ! $
-        keep ! (0 ∷ 1 ∷ 2 ∷ 6 ∷ []) $ by ! (exits n w′ (z .0) (v .1 .1 .0) e e′ (l′ ∙ l)))))))))))))))))))))))))))
+        land ! (from ! (stop !)) (init ! 32 refl (uint-lawful 𝓤 H A W w32 .typed n _ is′ .0)) $
+        returns ! (look ! 32 refl) $ forget ! 10 refl $ forget ! 12 refl $ forget ! 14 refl $ forget ! 16 refl $ forget ! 18 refl $ forget ! 20 refl $ forget ! 22 refl $ forget ! 24 refl $ forget ! 26 refl $ forget ! 28 refl $ forget ! 30 refl $ forget ! 32 refl $
+        move ! (32 ∷ 33 ∷ []) $ free1 ! $ move ! (30 ∷ 31 ∷ []) $ free1 ! $ move ! (28 ∷ 29 ∷ []) $ free1 ! $ move ! (26 ∷ 27 ∷ []) $ free1 ! $ move ! (24 ∷ 25 ∷ []) $ free1 ! $ move ! (22 ∷ 23 ∷ []) $ free1 ! $ move ! (20 ∷ 21 ∷ []) $ free1 ! $ move ! (18 ∷ 19 ∷ []) $ free1 ! $ move ! (16 ∷ 17 ∷ []) $ free1 ! $ move ! (14 ∷ 15 ∷ []) $ free1 ! $ move ! (12 ∷ 13 ∷ []) $ free1 ! $ move ! (10 ∷ 11 ∷ []) $ free1 ! $ free0 ! $
+        keep ! (0 ∷ 1 ∷ 2 ∷ 6 ∷ []) $ by ! (exits n w′ (z .0) (v .1 .1 .0) e e′ (l′ ∙ l))))))))))))))))))))))))))))
 
 module _ {M : Type 1} (𝓤 : URA M) (H : Heap 𝓤) (A : Atoms 𝓤) (W : Given 𝓤 H A) (mem : Memory → SProp 𝓤) (run : Routine → Fun 𝓤) where
   put-levels-walks : (C : Calls 𝓤 H) (Λ : Loops 𝓤 H) → FmC 𝓤 H (W .laws) C → Triple 𝓤 (C #meter·clear-levels) (Clear 𝓤 H A mem run) → Triple 𝓤 (C #meter·tally) (Tally 𝓤 H A mem run)
       → Walks 𝓤 H A f.ended stayed (WpFn 𝓤 H C Λ code.function) (f.clauses 𝓤 H A mem run)
-  put-levels-walks C Λ fm known known′ = walked 𝓤 H A f.ended stayed (f.clauses 𝓤 H A mem run) (WpFn 𝓤 H C Λ code.function) (λ κs. (slice-vals, (slice-vals, (slice-vals, (uint-vals w64, (uint-vals w64, tt))))))
-      (λ κs. (shr-slice-tells (named 0) (κs .0) u32, (shr-slice-tells (named 1) (κs .1 .0) u32, (mut-slice-tells (named 2) (κs .1 .1 .0) T.the-row, (uint-tells w64, (uint-tells w64, tt))))))
+  put-levels-walks C Λ fm known known′ = walked 𝓤 H A f.ended stayed (f.clauses 𝓤 H A mem run) (WpFn 𝓤 H C Λ code.function) (λ κs. (slice-vals, (slice-vals, (slice-vals, (uint-vals w64, (uint-vals w64, (uint-vals w64, tt)))))))
+      (λ κs. (shr-slice-tells (named 0) (κs .0) u32, (shr-slice-tells (named 1) (κs .1 .0) u32, (mut-slice-tells (named 2) (κs .1 .1 .0) T.the-row, (uint-tells w64, (uint-tells w64, (uint-tells w64, tt)))))))
       (λ κs qs bounds a g are. needs 𝓤 _ _ (λ asks.
-      walk 𝓤 H A W mem run (κs .0) (κs .1 .0) (κs .1 .1 .0) (qs .0) (qs .1 .0) (qs .1 .1 .0) (a .0) (a .1 .0) (a .1 .1 .0 .ptr .0) (a .1 .1 .0 .ptr .1) (a .1 .1 .0 .name) (a .1 .1 .0 .now) (a .1 .1 .1 .0) (a .1 .1 .1 .1 .0)
-      (are .1 .1 .1 .0 .1) (are .1 .1 .1 .1 .0 .1) (are .0 .0 .1) (are .1 .0 .0 .1) (are .1 .1 .0 .0 .1) asks C Λ fm known known′))
+      walk 𝓤 H A W mem run (κs .0) (κs .1 .0) (κs .1 .1 .0) (qs .0) (qs .1 .0) (qs .1 .1 .0) (a .0) (a .1 .0) (a .1 .1 .0 .ptr .0) (a .1 .1 .0 .ptr .1) (a .1 .1 .0 .name) (a .1 .1 .0 .now) (a .1 .1 .1 .0) (a .1 .1 .1 .1 .0) (a .1 .1 .1 .1 .1 .0)
+      (are .1 .1 .1 .0 .1) (are .1 .1 .1 .1 .0 .1) (are .1 .1 .1 .1 .1 .0 .1) (are .0 .0 .1) (are .1 .0 .0 .1) (are .1 .1 .0 .0 .1) asks C Λ fm known known′))
 
 put-levels-meets : {M : Type 1} (𝓤 : URA M) (H : Heap 𝓤) (A : Atoms 𝓤) → Given 𝓤 H A → (mem : Memory → SProp 𝓤) (run : Routine → Fun 𝓤) (𝓣 : Tables 𝓤 H) → Triple 𝓤 (𝓣 .C #meter·clear-levels) (Clear 𝓤 H A mem run)
     → Triple 𝓤 (𝓣 .C #meter·tally) (Tally 𝓤 H A mem run) → Meets 𝓤 H A f.signature (WpFn 𝓤 H (𝓣 .C) (𝓣 .Λ) code.function) (f.spec 𝓤 H A mem run)
@@ -240,7 +240,10 @@ put-levels-meets 𝓤 H A W mem run 𝓣 known known′ =
         goes-none-slice 𝓤 H A W 3 (1 ∷ []) tt (plain (λ _. u32)) yes,
         (
           goes-gave-slice 𝓤 H A W 3 2 tt (plain (λ _. T.the-row)),
-          (goes-none 𝓤 H A W 3 (λ _. usize) yes (λ κs x f. refl), (goes-none 𝓤 H A W 3 (λ _. usize) yes (λ κs x f. refl), tt)),
+          (
+            goes-none 𝓤 H A W 3 (λ _. usize) yes (λ κs x f. refl),
+            (goes-none 𝓤 H A W 3 (λ _. usize) yes (λ κs x f. refl), (goes-none 𝓤 H A W 3 (λ _. usize) yes (λ κs x f. refl), tt)),
+          ),
         ),
       ),
     ) (f.clauses 𝓤 H A mem run)

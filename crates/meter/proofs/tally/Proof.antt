@@ -74,7 +74,7 @@ stayed = (
     stay-none-slice (1 ∷ []) tt (plain (λ _. u32)) yes,
     (
       stay-slice (2 ∷ []) tt (plain (λ _. T.the-row)),
-      (stay-none (λ _. usize) yes, tt),
+      (stay-none (λ _. usize) yes, (stay-none (λ _. usize) yes, tt)),
     ),
   ),
 )
@@ -84,9 +84,9 @@ abbrev SpotOf : {M : Type 1} (𝓤 : URA M) (H : Heap 𝓤) (A : Atoms 𝓤) (me
 SpotOf 𝓤 H A mem run = tripleOf 𝓤 H A g.signature (g.spec 𝓤 H A mem run)
 
 module _ {M : Type 1} (𝓤 : URA M) (H : Heap 𝓤) (A : Atoms 𝓤) (W : Given 𝓤 H A) (mem : Memory → SProp 𝓤) (run : Routine → Fun 𝓤) (κ₀ κ₁ κ₂ : Lft) (q₀ q₁ q₂ : Share)
-    (net ds : RefT (List ℕ)) (b o : ℕ) (γ : GName) (olds : List Level) (gates : ℕ)
-    (gates-fits : gates < 2 ^ 64) (net-room : Room u32 (length (net .now))) (ds-room : Room u32 (length (ds .now))) (room : Room T.the-row (length olds))
-    (asks : Tallies (net .now) (ds .now) gates olds) where
+    (net ds : RefT (List ℕ)) (b o : ℕ) (γ : GName) (olds : List Level) (inputs gates : ℕ)
+    (inputs-fits : inputs < 2 ^ 64) (gates-fits : gates < 2 ^ 64) (net-room : Room u32 (length (net .now))) (ds-room : Room u32 (length (ds .now))) (room : Room T.the-row (length olds))
+    (asks : Tallies (net .now) (ds .now) inputs gates olds) where
   -- ---- the values: the borrow at the list l, the list after i turns, the arguments and their machine values
   abbrev x : List Level → RefT (List Level)
   x l = record { ptr = (b, o); name = γ; now = l }
@@ -104,10 +104,10 @@ module _ {M : Type 1} (𝓤 : URA M) (H : Heap 𝓤) (A : Atoms 𝓤) (W : Given
   length-zs i = length-tallied spot olds i
 
   abbrev Arg : Type 0
-  Arg = RefT (List ℕ) × (RefT (List ℕ) × (RefT (List Level) × (ℕ × Unit {0})))
+  Arg = RefT (List ℕ) × (RefT (List ℕ) × (RefT (List Level) × (ℕ × (ℕ × Unit {0}))))
 
   abbrev a : Arg
-  a = (net, (ds, (x olds, (gates, tt))))
+  a = (net, (ds, (x olds, (inputs, (gates, tt)))))
 
   abbrev sn : Val
   sn = sliceVal (net .ptr) (length (net .now))
@@ -118,8 +118,8 @@ module _ {M : Type 1} (𝓤 : URA M) (H : Heap 𝓤) (A : Atoms 𝓤) (W : Given
   abbrev s : Val
   s = sliceVal (b, o) (length olds)
 
-  abbrev vals : List Val × (List Val × (List Val × (List Val × Unit {0})))
-  vals = (sn ∷ [], (sd ∷ [], (s ∷ [], (vint w64 gates ∷ [], tt))))
+  abbrev vals : List Val × (List Val × (List Val × (List Val × (List Val × Unit {0}))))
+  vals = (sn ∷ [], (sd ∷ [], (s ∷ [], (vint w64 inputs ∷ [], (vint w64 gates ∷ [], tt)))))
 
   abbrev Post : Val → SProp 𝓤
   Post = walkOf 𝓤 H A f.ended stayed (f.clauses 𝓤 H A mem run) .post (((κ₀, (κ₁, (κ₂, tt))), (q₀, (q₁, (q₂, tt))), tt, a, vals), tt)
@@ -143,29 +143,29 @@ module _ {M : Type 1} (𝓤 : URA M) (H : Heap 𝓤) (A : Atoms 𝓤) (W : Given
   exits : ent 𝓤 (⋆ 𝓤 H A (Obs (zs gates) ∷ Bor (zs gates) ∷ ‵ (flft κ₂ q₂) ∷ ‵ Net ∷ ‵ Ds ∷ Toks ∷ [])) (Post (vint w32 (total gates)))
   exits =
       qed W (Obs (zs gates) ∷ Bor (zs gates) ∷ ‵ (flft κ₂ q₂) ∷ ‵ Net ∷ ‵ Ds ∷ Toks ∷ []) ∵
-      suffices ! _ (ends-at 𝓤 H A f.ended stayed (f.clauses 𝓤 H A mem run) W (((κ₀, (κ₁, (κ₂, tt))), (q₀, (q₁, (q₂, tt))), tt, a, vals), tt) (vint w32 (total gates)) (total gates) (tt, (tt, (zs gates, (tt, tt)))) (tt, (tt, (length-zs gates, (tt, tt))))) $ says ! (refl, refl) $
+      suffices ! _ (ends-at 𝓤 H A f.ended stayed (f.clauses 𝓤 H A mem run) W (((κ₀, (κ₁, (κ₂, tt))), (q₀, (q₁, (q₂, tt))), tt, a, vals), tt) (vint w32 (total gates)) (total gates) (tt, (tt, (zs gates, (tt, (tt, tt))))) (tt, (tt, (length-zs gates, (tt, (tt, tt)))))) $ says ! (refl, refl) $
       -- the tokens
       move ! (5 ∷ []) $ split ! $ move ! (1 ∷ []) $ split ! $ move ! (5 ∷ 1 ∷ []) $ join ! $ move ! (1 ∷ 0 ∷ []) $ join ! $ move ! (1 ∷ 0 ∷ []) $ join ! $ frame ! $
       -- [obs; the borrow; net; ds]: the parameters, from the last
-      nothing ! $ owned ! usize (Is usize) (uint-makes 𝓤 H A W w64) gates _ (refl, gates-fits) $ fjoin ! $
+      nothing ! $ owned ! usize (Is usize) (uint-makes 𝓤 H A W w64) gates _ (refl, gates-fits) $ fjoin ! $ owned ! usize (Is usize) (uint-makes 𝓤 H A W w64) inputs _ (refl, inputs-fits) $ fjoin ! $
       move ! (1 ∷ 2 ∷ []) $ fjoin ! $ pureI ! (at-slice T.the-row (x (zs gates)) (s ∷ [])) (tt, (tt, tt)) (ap (λ (m : ℕ). sliceVal (b, o) m ∷ []) (sym (length-zs gates)), subst (Room T.the-row) (sym (length-zs gates)) room) $ fjoin ! $ fjoin ! $
       move ! (2 ∷ 0 ∷ []) $ fjoin ! $ move ! (1 ∷ 0 ∷ []) $ fjoin ! $ frame ! $ owned ! u32 (Is u32) (uint-makes 𝓤 H A W w32) (total gates) _ (refl, gained-fits asks gates (omega arith)) $ done !
 
   -- ---- the call of `spot_of` for gate i
   abbrev Args : Type 0
-  Args = RefT (List ℕ) × (RefT (List ℕ) × (ℕ × Unit {0}))
+  Args = RefT (List ℕ) × (RefT (List ℕ) × (ℕ × (ℕ × Unit {0})))
 
   abbrev args : ℕ → Args
-  args i = (net, (ds, (i, tt)))
+  args i = (net, (ds, (inputs, (i, tt))))
 
-  abbrev passed : ℕ → List Val × (List Val × (List Val × Unit {0}))
-  passed i = (sn ∷ [], (sd ∷ [], (vint w64 i ∷ [], tt)))
+  abbrev passed : ℕ → List Val × (List Val × (List Val × (List Val × Unit {0})))
+  passed i = (sn ∷ [], (sd ∷ [], (vint w64 inputs ∷ [], (vint w64 i ∷ [], tt))))
 
   abbrev to : ℕ → SpotOf 𝓤 H A mem run .Ghost
   to i = (((κ₀, (κ₁, tt)), (q₀, (q₁, tt)), tt, args i, passed i), tt)
 
   asked : (i : ℕ) → i < gates → ent 𝓤 (onEntry 𝓤 H A g.signature (κ₀, (κ₁, tt)) (q₀, (q₁, tt)) (args i) (passed i)) (SpotOf 𝓤 H A mem run .pre (to i))
-  asked i l = qed W (Toks ∷ ‵ (owns (ShrSlice (named 0) κ₀ u32 ∷ ShrSlice (named 1) κ₁ u32 ∷ usize ∷ []) (args i) (passed i)) ∷ []) ∵ says ! (asks .stands i l) $ frame ! $ done !
+  asked i l = qed W (Toks ∷ ‵ (owns (ShrSlice (named 0) κ₀ u32 ∷ ShrSlice (named 1) κ₁ u32 ∷ usize ∷ usize ∷ []) (args i) (passed i)) ∷ []) ∵ says ! (asks .stands i l) $ frame ! $ done !
 
   -- what the callee asks, with a copy of what the two `&` own kept
   apart : (i : ℕ) → i < gates → i < 2 ^ 64 → ent 𝓤 (⋆ 𝓤 H A (‵ Net ∷ ‵ Ds ∷ Toks ∷ [])) (sep 𝓤 (SpotOf 𝓤 H A mem run .pre (to i)) (sep 𝓤 (sem 𝓤 H A Net) (sem 𝓤 H A Ds)))
@@ -173,7 +173,7 @@ module _ {M : Type 1} (𝓤 : URA M) (H : Heap 𝓤) (A : Atoms 𝓤) (W : Given
       qed W (‵ Net ∷ ‵ Ds ∷ Toks ∷ []) ∵ use1 W (‵ Net ⊛ ‵ Net) (shr-slice-copy 𝓤 H A W (named 0) κ₀ u32 .twice net (sn ∷ [])) $ split ! $
       move ! (2 ∷ []) $ use1 W (‵ Ds ⊛ ‵ Ds) (shr-slice-copy 𝓤 H A W (named 1) κ₁ u32 .twice ds (sd ∷ [])) $ split ! $
       -- [ds; ds; net; net; tokens]
-      nothing ! $ owned ! usize (Is usize) (uint-makes 𝓤 H A W w64) i _ (refl, i-fits) $ fjoin ! $
+      nothing ! $ owned ! usize (Is usize) (uint-makes 𝓤 H A W w64) i _ (refl, i-fits) $ fjoin ! $ owned ! usize (Is usize) (uint-makes 𝓤 H A W w64) inputs _ (refl, inputs-fits) $ fjoin ! $
       move ! (1 ∷ 0 ∷ []) $ fjoin ! $ move ! (2 ∷ 0 ∷ []) $ fjoin ! $ move ! (3 ∷ 0 ∷ []) $ use2 W (raw (SpotOf 𝓤 H A mem run .pre (to i))) (asked i l) $ frame ! $ move ! (1 ∷ 0 ∷ []) $ done !
 
   -- of what the callee ensures, the clause alone
@@ -205,16 +205,16 @@ module _ {M : Type 1} (𝓤 : URA M) (H : Heap 𝓤) (A : Atoms 𝓤) (W : Given
     start : olds ≡ zs 0
     start = tallied-none spot olds
 
-    module _ (l₀ l₁ l₂ l₃ l₄ l₅ l₆ l₇ l₈ l₉ l₁₀ l₁₁ l₁₂ l₁₃ l₁₄ : ℕ) where
+    module _ (l₀ l₁ l₂ l₃ l₄ l₅ l₆ l₇ l₈ l₉ l₁₀ l₁₁ l₁₂ l₁₃ l₁₄ l₁₅ : ℕ) where
       abbrev En : Env 𝓤 H
-      En = (half, l₀) ∷ (netTy, l₁) ∷ (dsTy, l₂) ∷ (levelsTy, l₃) ∷ (word, l₄) ∷ (half, l₅) ∷ (word, l₆) ∷ (S′.mir, l₇) ∷ (word, l₈) ∷ (tyBool, l₉) ∷ (word, l₁₀) ∷ (tyPtr, l₁₁) ∷ (half, l₁₂) ∷ (half, l₁₃) ∷ (tyPtr, l₁₄) ∷ []
+      En = (half, l₀) ∷ (netTy, l₁) ∷ (dsTy, l₂) ∷ (levelsTy, l₃) ∷ (word, l₄) ∷ (word, l₅) ∷ (half, l₆) ∷ (word, l₇) ∷ (S′.mir, l₈) ∷ (word, l₉) ∷ (tyBool, l₁₀) ∷ (word, l₁₁) ∷ (tyPtr, l₁₂) ∷ (half, l₁₃) ∷ (half, l₁₄) ∷ (tyPtr, l₁₅) ∷ []
 
-      -- the invariant after i turns: [obs; the borrow; its token; net; ds; tokens; _1 .. _6; room for _7 .. _14; room for _0; that each local dies]
+      -- the invariant after i turns: [obs; the borrow; its token; net; ds; tokens; _1 .. _7; room for _8 .. _15; room for _0; that each local dies]
       abbrev At : ℕ → List (Item 𝓤)
       At i = Obs (zs i) ∷ Bor (zs i) ∷ ‵ (flft κ₂ q₂) ∷ ‵ Net ∷ ‵ Ds ∷ Toks
-          ∷ ‵ (fat fullShare netTy l₁ 0 sn) ∷ ‵ (fat fullShare dsTy l₂ 0 sd) ∷ ‵ (fat fullShare levelsTy l₃ 0 s) ∷ ‵ (fat fullShare word l₄ 0 (vint w64 gates)) ∷ ‵ (fat fullShare half l₅ 0 (vint w32 (total i))) ∷ ‵ (fat fullShare word l₆ 0 (vint w64 i))
-          ∷ ‵ (froom S′.mir l₇ 0) ∷ ‵ (froom word l₈ 0) ∷ ‵ (froom tyBool l₉ 0) ∷ ‵ (froom word l₁₀ 0) ∷ ‵ (froom tyPtr l₁₁ 0) ∷ ‵ (froom half l₁₂ 0) ∷ ‵ (froom half l₁₃ 0) ∷ ‵ (froom tyPtr l₁₄ 0) ∷ ‵ (froom half l₀ 0)
-          ∷ ‵ (fdies half l₀) ∷ ‵ (fdies netTy l₁) ∷ ‵ (fdies dsTy l₂) ∷ ‵ (fdies levelsTy l₃) ∷ ‵ (fdies word l₄) ∷ ‵ (fdies half l₅) ∷ ‵ (fdies word l₆) ∷ ‵ (fdies S′.mir l₇) ∷ ‵ (fdies word l₈) ∷ ‵ (fdies tyBool l₉) ∷ ‵ (fdies word l₁₀) ∷ ‵ (fdies tyPtr l₁₁) ∷ ‵ (fdies half l₁₂) ∷ ‵ (fdies half l₁₃) ∷ ‵ (fdies tyPtr l₁₄) ∷ []
+          ∷ ‵ (fat fullShare netTy l₁ 0 sn) ∷ ‵ (fat fullShare dsTy l₂ 0 sd) ∷ ‵ (fat fullShare levelsTy l₃ 0 s) ∷ ‵ (fat fullShare word l₄ 0 (vint w64 inputs)) ∷ ‵ (fat fullShare word l₅ 0 (vint w64 gates)) ∷ ‵ (fat fullShare half l₆ 0 (vint w32 (total i))) ∷ ‵ (fat fullShare word l₇ 0 (vint w64 i))
+          ∷ ‵ (froom S′.mir l₈ 0) ∷ ‵ (froom word l₉ 0) ∷ ‵ (froom tyBool l₁₀ 0) ∷ ‵ (froom word l₁₁ 0) ∷ ‵ (froom tyPtr l₁₂ 0) ∷ ‵ (froom half l₁₃ 0) ∷ ‵ (froom half l₁₄ 0) ∷ ‵ (froom tyPtr l₁₅ 0) ∷ ‵ (froom half l₀ 0)
+          ∷ ‵ (fdies half l₀) ∷ ‵ (fdies netTy l₁) ∷ ‵ (fdies dsTy l₂) ∷ ‵ (fdies levelsTy l₃) ∷ ‵ (fdies word l₄) ∷ ‵ (fdies word l₅) ∷ ‵ (fdies half l₆) ∷ ‵ (fdies word l₇) ∷ ‵ (fdies S′.mir l₈) ∷ ‵ (fdies word l₉) ∷ ‵ (fdies tyBool l₁₀) ∷ ‵ (fdies word l₁₁) ∷ ‵ (fdies tyPtr l₁₂) ∷ ‵ (fdies half l₁₃) ∷ ‵ (fdies half l₁₄) ∷ ‵ (fdies tyPtr l₁₅) ∷ []
 
       -- when the loop is left, the rest of the body runs
       abbrev Left : Out → SProp 𝓤
@@ -227,13 +227,13 @@ module _ {M : Type 1} (𝓤 : URA M) (H : Heap 𝓤) (A : Atoms 𝓤) (W : Given
           let i-fits : i < 2 ^ 64 = omega arith in
           let next-fits : i + 1 < 2 ^ 64 = omega arith in
           qed W (At i) ∵ exec ! C Λ En body.turn-1 (anyQ (afterTurn 𝓤 H X Left)) $
-          assigns ! (bin ! (load ! (from ! (stop !)) (look ! 11 refl)) (load ! (from ! (stop !)) (look ! 9 refl)) tt) (from ! (stop !)) (init ! 14 refl (tt, tt)) $
-          rewrite ! 14 (λ (t : Bool). ‵ (fat fullShare tyBool l₉ 0 (vbool t))) (lt-ltb i gates small) refl $
-          stays ! (load ! (from ! (stop !)) (look ! 14 refl)) $
+          assigns ! (bin ! (load ! (from ! (stop !)) (look ! 12 refl)) (load ! (from ! (stop !)) (look ! 10 refl)) tt) (from ! (stop !)) (init ! 15 refl (tt, tt)) $
+          rewrite ! 15 (λ (t : Bool). ‵ (fat fullShare tyBool l₁₀ 0 (vbool t))) (lt-ltb i gates small) refl $
+          stays ! (load ! (from ! (stop !)) (look ! 15 refl)) $
           -- the call of `spot_of`
           move ! (3 ∷ 4 ∷ 5 ∷ []) $ use3 W (raw (SpotOf 𝓤 H A mem run .pre (to i)) ⊛ (‵ Net ⊛ ‵ Ds)) (apart i small i-fits) $ split ! $
           calls-at ! (fmOf 𝓤 H (W .laws) 𝓣) (SpotOf 𝓤 H A mem run) known (to i)
-          (and-then ! (load ! (from ! (stop !)) (look ! 5 refl)) (and-then ! (load ! (from ! (stop !)) (look ! 6 refl)) (and-then ! (load ! (from ! (stop !)) (look ! 10 refl)) (no-more !)))) (λ u.
+          (and-then ! (load ! (from ! (stop !)) (look ! 5 refl)) (and-then ! (load ! (from ! (stop !)) (look ! 6 refl)) (and-then ! (load ! (from ! (stop !)) (look ! 8 refl)) (and-then ! (load ! (from ! (stop !)) (look ! 11 refl)) (no-more !))))) (λ u.
           use1 W (later (some (λ (r : Spot). (Toks ⊛ ‵ (S.the-row .own r (u ∷ []))) ⊛ raw (ensured 𝓤 H A g.ended (g.clauses 𝓤 H A mem run) (κ₀, (κ₁, tt)) (args i) tt r)))) (id⊢ 𝓤 _) $ await ! tt $ pick ! (λ r.
           split ! $ move ! (1 ∷ []) $ use1 W (raw (fact 𝓤 (r ≡ spot i))) (said i r) $ heard ! (r ≡ spot i) (λ e. split ! $ move ! (1 ∷ []) $
           peeks ! S.the-row (Is S.the-row) (shows 𝓤 H A S.the-row) r (u ∷ []) (λ is.
@@ -242,38 +242,38 @@ module _ {M : Type 1} (𝓤 : URA M) (H : Heap 𝓤) (A : Atoms 𝓤) (W : Given
           let below : r .at < length olds = spot-inside asks i small e in
           let inside : r .at < length (zs i) = omega (arith, length-zs i) in
           let far : r .at * 8 < 2 ^ 64 = omega (arith, room .1) in
-          land ! (from ! (stop !)) (init ! 12 refl (LL.lawful S.the-type S′.the-laws 𝓤 H A W .typed r _ is .0)) $ rewrite ! 12 (λ (w : Val). ‵ (fat fullShare S′.mir l₇ 0 w)) (ap only told) refl $ drop ! $
-          -- [tokens; net and ds; obs; the borrow; its token; _1 .. _14; room for _0; …]
-          assigns ! (of-opd ! (load ! (from ! (fld ! refl (stop !))) (look-in ! 11 (sub ! 0 refl (whole !))))) (from ! (stop !)) (init ! 12 refl (tt, record { fits = parts .0 .1 })) $
-          assigns ! (bin ! (load ! (from ! (stop !)) (look ! 12 refl)) (lit ! tt) (record { fits = far })) (from ! (stop !)) (init ! 14 refl (tt, record { fits = far })) $
-          assigns ! (bin ! (load ! (from ! (fld ! refl (stop !))) (look-in ! 7 (sub ! 0 refl (whole !)))) (load ! (from ! (stop !)) (look ! 14 refl)) tt) (from ! (stop !)) (init ! 15 refl (tt, tt)) $
-          rewrite ! 15 (λ (p : ℕ). ‵ (fat fullShare tyPtr l₁₁ 0 (vptr b p))) (sym (place-is 8 o (r .at))) refl $
+          land ! (from ! (stop !)) (init ! 13 refl (LL.lawful S.the-type S′.the-laws 𝓤 H A W .typed r _ is .0)) $ rewrite ! 13 (λ (w : Val). ‵ (fat fullShare S′.mir l₈ 0 w)) (ap only told) refl $ drop ! $
+          -- [tokens; net and ds; obs; the borrow; its token; _1 .. _15; room for _0; …]
+          assigns ! (of-opd ! (load ! (from ! (fld ! refl (stop !))) (look-in ! 12 (sub ! 0 refl (whole !))))) (from ! (stop !)) (init ! 13 refl (tt, record { fits = parts .0 .1 })) $
+          assigns ! (bin ! (load ! (from ! (stop !)) (look ! 13 refl)) (lit ! tt) (record { fits = far })) (from ! (stop !)) (init ! 15 refl (tt, record { fits = far })) $
+          assigns ! (bin ! (load ! (from ! (fld ! refl (stop !))) (look-in ! 7 (sub ! 0 refl (whole !)))) (load ! (from ! (stop !)) (look ! 15 refl)) tt) (from ! (stop !)) (init ! 16 refl (tt, tt)) $
+          rewrite ! 16 (λ (p : ℕ). ‵ (fat fullShare tyPtr l₁₂ 0 (vptr b p))) (sym (place-is 8 o (r .at))) refl $
           -- the borrow is opened, and stays open until both fields are stored
           move ! (2 ∷ 3 ∷ 4 ∷ []) $ opens-slice ! tt T.the-row (zs i) b o $ elem-out ! T.the-row (Is T.the-row) (shows 𝓤 H A T.the-row) (LL.vals T.the-type T′.the-laws) (LL.tells T.the-type T′.the-laws) fullShare (zs i) (r .at) noGates b o inside (λ was.
-          -- [levels[at]; what it owns; the others; the open borrow; obs; auth; tokens; net and ds; _1 .. _14; room for _0; …]
+          -- [levels[at]; what it owns; the others; the open borrow; obs; auth; tokens; net and ds; _1 .. _15; room for _0; …]
           let v = getD (zs i) (r .at) noGates in
           let w : Level = bump v r in
           let fits = sums-fit asks i small e in
           let had = LL.owed T.the-type T′.the-laws v _ was in
           let gw : Is T.the-row w (T′.lowered w ∷ []) = LL.owes T.the-type T′.the-laws w ((refl, fits .0), ((refl, fits .1), tt)) in
-          assigns ! (of-opd ! (load ! (from ! (hop ! (look ! 18 refl) (fld ! refl (stop !)))) (look-in ! 0 (sub ! 0 refl (whole !))))) (from ! (stop !)) (init ! 19 refl (tt, record { fits = had .0 .1 })) $
-          assigns ! (bin ! (load ! (from ! (stop !)) (look ! 19 refl)) (load ! (from ! (fld ! refl (stop !))) (look-in ! 14 (sub ! 1 refl (whole !)))) (record { fits = fits .0 })) (from ! (stop !)) (init ! 20 refl (tt, record { fits = fits .0 })) $
-          assigns ! (of-opd ! (load ! (from ! (stop !)) (look ! 20 refl))) (from ! (hop ! (look ! 18 refl) (fld ! refl (stop !)))) (store-in ! 0 (sub ! 0 refl (whole !)) (tt, record { fits = fits .0 })) $
-          assigns ! (bin ! (load ! (from ! (stop !)) (look ! 15 refl)) (lit ! tt) (record { fits = far })) (from ! (stop !)) (store ! 17 refl (tt, record { fits = far })) $
-          assigns ! (bin ! (load ! (from ! (fld ! refl (stop !))) (look-in ! 10 (sub ! 0 refl (whole !)))) (load ! (from ! (stop !)) (look ! 17 refl)) tt) (from ! (stop !)) (init ! 21 refl (tt, tt)) $
-          rewrite ! 21 (λ (p : ℕ). ‵ (fat fullShare tyPtr l₁₄ 0 (vptr b p))) (sym (place-is 8 o (r .at))) refl $
-          assigns ! (of-opd ! (load ! (from ! (hop ! (look ! 21 refl) (fld ! refl (stop !)))) (look-in ! 0 (sub ! 1 refl (whole !))))) (from ! (stop !)) (store ! 20 refl (tt, record { fits = had .1 .0 .1 })) $
-          assigns ! (bin ! (load ! (from ! (stop !)) (look ! 20 refl)) (load ! (from ! (fld ! refl (stop !))) (look-in ! 14 (sub ! 2 refl (whole !)))) (record { fits = fits .1 })) (from ! (stop !)) (store ! 19 refl (tt, record { fits = fits .1 })) $
-          assigns ! (of-opd ! (load ! (from ! (stop !)) (look ! 19 refl))) (from ! (hop ! (look ! 21 refl) (fld ! refl (stop !)))) (store-in ! 0 (sub ! 1 refl (whole !)) (tt, record { fits = fits .1 })) $
+          assigns ! (of-opd ! (load ! (from ! (hop ! (look ! 19 refl) (fld ! refl (stop !)))) (look-in ! 0 (sub ! 0 refl (whole !))))) (from ! (stop !)) (init ! 20 refl (tt, record { fits = had .0 .1 })) $
+          assigns ! (bin ! (load ! (from ! (stop !)) (look ! 20 refl)) (load ! (from ! (fld ! refl (stop !))) (look-in ! 15 (sub ! 1 refl (whole !)))) (record { fits = fits .0 })) (from ! (stop !)) (init ! 21 refl (tt, record { fits = fits .0 })) $
+          assigns ! (of-opd ! (load ! (from ! (stop !)) (look ! 21 refl))) (from ! (hop ! (look ! 19 refl) (fld ! refl (stop !)))) (store-in ! 0 (sub ! 0 refl (whole !)) (tt, record { fits = fits .0 })) $
+          assigns ! (bin ! (load ! (from ! (stop !)) (look ! 16 refl)) (lit ! tt) (record { fits = far })) (from ! (stop !)) (store ! 18 refl (tt, record { fits = far })) $
+          assigns ! (bin ! (load ! (from ! (fld ! refl (stop !))) (look-in ! 10 (sub ! 0 refl (whole !)))) (load ! (from ! (stop !)) (look ! 18 refl)) tt) (from ! (stop !)) (init ! 22 refl (tt, tt)) $
+          rewrite ! 22 (λ (p : ℕ). ‵ (fat fullShare tyPtr l₁₅ 0 (vptr b p))) (sym (place-is 8 o (r .at))) refl $
+          assigns ! (of-opd ! (load ! (from ! (hop ! (look ! 22 refl) (fld ! refl (stop !)))) (look-in ! 0 (sub ! 1 refl (whole !))))) (from ! (stop !)) (store ! 21 refl (tt, record { fits = had .1 .0 .1 })) $
+          assigns ! (bin ! (load ! (from ! (stop !)) (look ! 21 refl)) (load ! (from ! (fld ! refl (stop !))) (look-in ! 15 (sub ! 2 refl (whole !)))) (record { fits = fits .1 })) (from ! (stop !)) (store ! 20 refl (tt, record { fits = fits .1 })) $
+          assigns ! (of-opd ! (load ! (from ! (stop !)) (look ! 20 refl))) (from ! (hop ! (look ! 22 refl) (fld ! refl (stop !)))) (store-in ! 0 (sub ! 1 refl (whole !)) (tt, record { fits = fits .1 })) $
           move ! (1 ∷ []) $ drop ! $ owned ! T.the-row (Is T.the-row) ((LL.makes T.the-type T′.the-plain) 𝓤 H A) w _ gw $ move ! (1 ∷ 0 ∷ []) $ elem-put ! T.the-row fullShare (zs i) (r .at) w (T′.lowered w ∷ []) b o inside $
           closes-slice ! tt T.the-row (zs i) (set (zs i) (r .at) w) (length-set (zs i) (r .at) w) b o $
-          -- [obs; the borrow; its token; tokens; net and ds; _1 .. _14; room for _0; …]
+          -- [obs; the borrow; its token; tokens; net and ds; _1 .. _15; room for _0; …]
           let sum-fits : total i + r .multiplications < 2 ^ 32 = omega (arith, gained-more asks i small e, gained-fits asks (suc i) small) in
-          assigns ! (bin ! (load ! (from ! (stop !)) (look ! 9 refl)) (load ! (from ! (fld ! refl (stop !))) (look-in ! 11 (sub ! 3 refl (whole !)))) (record { fits = sum-fits })) (from ! (stop !)) (store ! 9 refl (tt, record { fits = sum-fits })) $
-          assigns-last ! (bin ! (load ! (from ! (stop !)) (look ! 10 refl)) (lit ! tt) (record { fits = next-fits })) (from ! (stop !)) (store ! 10 refl (tt, record { fits = next-fits })) $
-          forget ! 11 refl $ forget ! 12 refl $ forget ! 13 refl $ forget ! 14 refl $ forget ! 15 refl $ forget ! 16 refl $ forget ! 17 refl $ forget ! 18 refl $
-          rewrite ! 9 (λ (j : ℕ). ‵ (fat fullShare half l₅ 0 (vint w32 j))) (gained-more asks i small e) refl $
-          rewrite ! 10 (λ (j : ℕ). ‵ (fat fullShare word l₆ 0 (vint w64 j))) (add-one i) refl $
+          assigns ! (bin ! (load ! (from ! (stop !)) (look ! 10 refl)) (load ! (from ! (fld ! refl (stop !))) (look-in ! 12 (sub ! 3 refl (whole !)))) (record { fits = sum-fits })) (from ! (stop !)) (store ! 10 refl (tt, record { fits = sum-fits })) $
+          assigns-last ! (bin ! (load ! (from ! (stop !)) (look ! 11 refl)) (lit ! tt) (record { fits = next-fits })) (from ! (stop !)) (store ! 11 refl (tt, record { fits = next-fits })) $
+          forget ! 12 refl $ forget ! 13 refl $ forget ! 14 refl $ forget ! 15 refl $ forget ! 16 refl $ forget ! 17 refl $ forget ! 18 refl $ forget ! 19 refl $
+          rewrite ! 10 (λ (j : ℕ). ‵ (fat fullShare half l₆ 0 (vint w32 j))) (gained-more asks i small e) refl $
+          rewrite ! 11 (λ (j : ℕ). ‵ (fat fullShare word l₇ 0 (vint w64 j))) (add-one i) refl $
           rewrite ! 0 Obs (tallied-more spot olds i e) refl $ rewrite ! 1 Bor (tallied-more spot olds i e) refl $
           move ! (4 ∷ []) $ split ! $ move ! (2 ∷ 3 ∷ 4 ∷ 0 ∷ 1 ∷ []) $ by ! k)))))
 
@@ -282,12 +282,12 @@ module _ {M : Type 1} (𝓤 : URA M) (H : Heap 𝓤) (A : Atoms 𝓤) (W : Given
       unfolding afterTurn
       ends X =
           qed W (At gates) ∵ exec ! C Λ En body.turn-1 (anyQ (afterTurn 𝓤 H X Left)) $
-          assigns ! (bin ! (load ! (from ! (stop !)) (look ! 11 refl)) (load ! (from ! (stop !)) (look ! 9 refl)) tt) (from ! (stop !)) (init ! 14 refl (tt, tt)) $
-          rewrite ! 14 (λ (t : Bool). ‵ (fat fullShare tyBool l₉ 0 (vbool t))) (le-ltb gates gates (omega arith)) refl $
-          leaves-loop ! (load ! (from ! (stop !)) (look ! 14 refl)) $ exec ! C Λ En body.t-4 (atRet En Post) $
-          assigns ! (of-opd ! (load ! (from ! (stop !)) (look ! 10 refl))) (from ! (stop !)) (init ! 20 refl (tt, record { fits = gained-fits asks gates (omega arith) })) $
-          returns ! (look ! 20 refl) $ forget ! 6 refl $ forget ! 7 refl $ forget ! 8 refl $ forget ! 9 refl $ forget ! 10 refl $ forget ! 11 refl $ forget ! 14 refl $ forget ! 20 refl $
-          move ! (20 ∷ 21 ∷ []) $ free1 ! $ move ! (6 ∷ 20 ∷ []) $ free1 ! $ move ! (6 ∷ 19 ∷ []) $ free1 ! $ move ! (6 ∷ 18 ∷ []) $ free1 ! $ move ! (6 ∷ 17 ∷ []) $ free1 ! $ move ! (6 ∷ 16 ∷ []) $ free1 ! $ move ! (6 ∷ 15 ∷ []) $ free1 ! $ move ! (6 ∷ 14 ∷ []) $ free1 ! $ move ! (6 ∷ 13 ∷ []) $ free1 ! $ move ! (6 ∷ 12 ∷ []) $ free1 ! $ move ! (6 ∷ 11 ∷ []) $ free1 ! $ move ! (6 ∷ 10 ∷ []) $ free1 ! $ move ! (6 ∷ 9 ∷ []) $ free1 ! $ move ! (6 ∷ 8 ∷ []) $ free1 ! $ move ! (6 ∷ 7 ∷ []) $ free1 ! $ free0 ! $ by ! exits
+          assigns ! (bin ! (load ! (from ! (stop !)) (look ! 12 refl)) (load ! (from ! (stop !)) (look ! 10 refl)) tt) (from ! (stop !)) (init ! 15 refl (tt, tt)) $
+          rewrite ! 15 (λ (t : Bool). ‵ (fat fullShare tyBool l₁₀ 0 (vbool t))) (le-ltb gates gates (omega arith)) refl $
+          leaves-loop ! (load ! (from ! (stop !)) (look ! 15 refl)) $ exec ! C Λ En body.t-4 (atRet En Post) $
+          assigns ! (of-opd ! (load ! (from ! (stop !)) (look ! 11 refl))) (from ! (stop !)) (init ! 21 refl (tt, record { fits = gained-fits asks gates (omega arith) })) $
+          returns ! (look ! 21 refl) $ forget ! 6 refl $ forget ! 7 refl $ forget ! 8 refl $ forget ! 9 refl $ forget ! 10 refl $ forget ! 11 refl $ forget ! 12 refl $ forget ! 15 refl $ forget ! 21 refl $
+          move ! (21 ∷ 22 ∷ []) $ free1 ! $ move ! (6 ∷ 21 ∷ []) $ free1 ! $ move ! (6 ∷ 20 ∷ []) $ free1 ! $ move ! (6 ∷ 19 ∷ []) $ free1 ! $ move ! (6 ∷ 18 ∷ []) $ free1 ! $ move ! (6 ∷ 17 ∷ []) $ free1 ! $ move ! (6 ∷ 16 ∷ []) $ free1 ! $ move ! (6 ∷ 15 ∷ []) $ free1 ! $ move ! (6 ∷ 14 ∷ []) $ free1 ! $ move ! (6 ∷ 13 ∷ []) $ free1 ! $ move ! (6 ∷ 12 ∷ []) $ free1 ! $ move ! (6 ∷ 11 ∷ []) $ free1 ! $ move ! (6 ∷ 10 ∷ []) $ free1 ! $ move ! (6 ∷ 9 ∷ []) $ free1 ! $ move ! (6 ∷ 8 ∷ []) $ free1 ! $ move ! (6 ∷ 7 ∷ []) $ free1 ! $ free0 ! $ by ! exits
 
       -- ---- the loop: the variant t is what is left, and gates - t turns are done
       abbrev Inv : ℕ → SProp 𝓤
@@ -316,49 +316,49 @@ module _ {M : Type 1} (𝓤 : URA M) (H : Heap 𝓤) (A : Atoms 𝓤) (W : Given
 
       -- what there is before the loop, as the locals were allocated
       abbrev Fresh : Item 𝓤 → Item 𝓤 → List (Item 𝓤)
-      Fresh five six = ‵ (froom tyPtr l₁₄ 0) ∷ ‵ (fdies tyPtr l₁₄) ∷ ‵ (froom half l₁₃ 0) ∷ ‵ (fdies half l₁₃) ∷ ‵ (froom half l₁₂ 0) ∷ ‵ (fdies half l₁₂) ∷ ‵ (froom tyPtr l₁₁ 0) ∷ ‵ (fdies tyPtr l₁₁) ∷ ‵ (froom word l₁₀ 0) ∷ ‵ (fdies word l₁₀) ∷ ‵ (froom tyBool l₉ 0) ∷ ‵ (fdies tyBool l₉) ∷ ‵ (froom word l₈ 0) ∷ ‵ (fdies word l₈) ∷ ‵ (froom S′.mir l₇ 0) ∷ ‵ (fdies S′.mir l₇) ∷ six ∷ ‵ (fdies word l₆) ∷ five ∷ ‵ (fdies half l₅) ∷ ‵ (fat fullShare word l₄ 0 (vint w64 gates)) ∷ ‵ (fdies word l₄) ∷ ‵ (fat fullShare levelsTy l₃ 0 s) ∷ ‵ (fdies levelsTy l₃) ∷ ‵ (fat fullShare dsTy l₂ 0 sd) ∷ ‵ (fdies dsTy l₂) ∷ ‵ (fat fullShare netTy l₁ 0 sn) ∷ ‵ (fdies netTy l₁) ∷ ‵ (froom half l₀ 0) ∷ ‵ (fdies half l₀) ∷ (‵ (flft κ₀ q₀) ⊛ ‵ (flft κ₁ q₁) ⊛ ‵ (flft κ₂ q₂) ⊛ ‵ ftrue) ∷ ‵ (owns (ShrSlice (named 0) κ₀ u32 ∷ ShrSlice (named 1) κ₁ u32 ∷ MutSlice (named 2) κ₂ T.the-row ∷ usize ∷ []) a vals) ∷ []
+      Fresh five six = ‵ (froom tyPtr l₁₅ 0) ∷ ‵ (fdies tyPtr l₁₅) ∷ ‵ (froom half l₁₄ 0) ∷ ‵ (fdies half l₁₄) ∷ ‵ (froom half l₁₃ 0) ∷ ‵ (fdies half l₁₃) ∷ ‵ (froom tyPtr l₁₂ 0) ∷ ‵ (fdies tyPtr l₁₂) ∷ ‵ (froom word l₁₁ 0) ∷ ‵ (fdies word l₁₁) ∷ ‵ (froom tyBool l₁₀ 0) ∷ ‵ (fdies tyBool l₁₀) ∷ ‵ (froom word l₉ 0) ∷ ‵ (fdies word l₉) ∷ ‵ (froom S′.mir l₈ 0) ∷ ‵ (fdies S′.mir l₈) ∷ six ∷ ‵ (fdies word l₇) ∷ five ∷ ‵ (fdies half l₆) ∷ ‵ (fat fullShare word l₅ 0 (vint w64 gates)) ∷ ‵ (fdies word l₅) ∷ ‵ (fat fullShare word l₄ 0 (vint w64 inputs)) ∷ ‵ (fdies word l₄) ∷ ‵ (fat fullShare levelsTy l₃ 0 s) ∷ ‵ (fdies levelsTy l₃) ∷ ‵ (fat fullShare dsTy l₂ 0 sd) ∷ ‵ (fdies dsTy l₂) ∷ ‵ (fat fullShare netTy l₁ 0 sn) ∷ ‵ (fdies netTy l₁) ∷ ‵ (froom half l₀ 0) ∷ ‵ (fdies half l₀) ∷ (‵ (flft κ₀ q₀) ⊛ ‵ (flft κ₁ q₁) ⊛ ‵ (flft κ₂ q₂) ⊛ ‵ ftrue) ∷ ‵ (owns (ShrSlice (named 0) κ₀ u32 ∷ ShrSlice (named 1) κ₁ u32 ∷ MutSlice (named 2) κ₂ T.the-row ∷ usize ∷ usize ∷ []) a vals) ∷ []
 
-      laid : ent 𝓤 (⋆ 𝓤 H A (Fresh (‵ (fat fullShare half l₅ 0 (vint w32 0))) (‵ (fat fullShare word l₆ 0 (vint w64 0))))) (Wp 𝓤 H C Λ En (loop body.turn-1) Left)
+      laid : ent 𝓤 (⋆ 𝓤 H A (Fresh (‵ (fat fullShare half l₆ 0 (vint w32 0))) (‵ (fat fullShare word l₇ 0 (vint w64 0))))) (Wp 𝓤 H C Λ En (loop body.turn-1) Left)
       laid =
-          qed W (Fresh (‵ (fat fullShare half l₅ 0 (vint w32 0))) (‵ (fat fullShare word l₆ 0 (vint w64 0)))) ∵
-          move ! (31 ∷ []) $ fsplit ! $ move ! (1 ∷ []) $ fsplit ! $ move ! (1 ∷ []) $ fsplit ! $ fsplit ! $ move ! (1 ∷ []) $ fsplit ! $
-          -- [obs; the borrow; the slice's fact; gates'; ds; net; …; the tokens]
-          move ! (36 ∷ []) $ split ! $ move ! (1 ∷ []) $ split ! $ move ! (1 ∷ []) $ split ! $ move ! (2 ∷ 1 ∷ []) $ join ! $ move ! (2 ∷ 0 ∷ []) $ join ! $
-          -- [tokens; levels' token; obs; the borrow; the slice's fact; gates'; ds; net; _14; …; _0; …]
-          keep ! (2 ∷ 3 ∷ 1 ∷ 7 ∷ 6 ∷ 0 ∷ 34 ∷ 32 ∷ 30 ∷ 28 ∷ 26 ∷ 24 ∷ 22 ∷ 20 ∷ 18 ∷ 16 ∷ 14 ∷ 12 ∷ 10 ∷ 8 ∷ 36 ∷ 37 ∷ 35 ∷ 33 ∷ 31 ∷ 29 ∷ 27 ∷ 25 ∷ 23 ∷ 21 ∷ 19 ∷ 17 ∷ 15 ∷ 13 ∷ 11 ∷ 9 ∷ []) $
-          rewrite ! 0 Obs start refl $ rewrite ! 1 Bor start refl $ rewrite ! 10 (λ (j : ℕ). ‵ (fat fullShare half l₅ 0 (vint w32 j))) (sum-none (λ k. spot k .multiplications)) refl $ by ! loops
+          qed W (Fresh (‵ (fat fullShare half l₆ 0 (vint w32 0))) (‵ (fat fullShare word l₇ 0 (vint w64 0)))) ∵
+          move ! (33 ∷ []) $ fsplit ! $ move ! (1 ∷ []) $ fsplit ! $ move ! (1 ∷ []) $ fsplit ! $ fsplit ! $ move ! (1 ∷ []) $ fsplit ! $
+          -- [obs; the borrow; the slice's fact; the numbers'; ds; net; …; the tokens]
+          move ! (38 ∷ []) $ split ! $ move ! (1 ∷ []) $ split ! $ move ! (1 ∷ []) $ split ! $ move ! (2 ∷ 1 ∷ []) $ join ! $ move ! (2 ∷ 0 ∷ []) $ join ! $
+          -- [tokens; levels' token; obs; the borrow; the slice's fact; the numbers'; ds; net; _15; …; _0; …]
+          keep ! (2 ∷ 3 ∷ 1 ∷ 7 ∷ 6 ∷ 0 ∷ 36 ∷ 34 ∷ 32 ∷ 30 ∷ 28 ∷ 26 ∷ 24 ∷ 22 ∷ 20 ∷ 18 ∷ 16 ∷ 14 ∷ 12 ∷ 10 ∷ 8 ∷ 38 ∷ 39 ∷ 37 ∷ 35 ∷ 33 ∷ 31 ∷ 29 ∷ 27 ∷ 25 ∷ 23 ∷ 21 ∷ 19 ∷ 17 ∷ 15 ∷ 13 ∷ 11 ∷ 9 ∷ []) $
+          rewrite ! 0 Obs start refl $ rewrite ! 1 Bor start refl $ rewrite ! 11 (λ (j : ℕ). ‵ (fat fullShare half l₆ 0 (vint w32 j))) (sum-none (λ k. spot k .multiplications)) refl $ by ! loops
 
-      begins : ent 𝓤 (⋆ 𝓤 H A (Fresh (‵ (froom half l₅ 0)) (‵ (froom word l₆ 0)))) (Wp 𝓤 H C Λ En body.t-1 (atReturn 𝓤 H En Post))
+      begins : ent 𝓤 (⋆ 𝓤 H A (Fresh (‵ (froom half l₆ 0)) (‵ (froom word l₇ 0)))) (Wp 𝓤 H C Λ En body.t-1 (atReturn 𝓤 H En Post))
       begins =
-          qed W (Fresh (‵ (froom half l₅ 0)) (‵ (froom word l₆ 0))) ∵ exec ! C Λ En body.t-1 (atRet En Post) $
+          qed W (Fresh (‵ (froom half l₆ 0)) (‵ (froom word l₇ 0))) ∵ exec ! C Λ En body.t-1 (atRet En Post) $
           assigns ! (of-opd ! (lit ! tt)) (from ! (stop !)) (init ! 18 refl (tt, record { fits = omega arith })) $
           assigns ! (of-opd ! (lit ! tt)) (from ! (stop !)) (init ! 16 refl (tt, record { fits = omega arith })) $ by ! laid
 
       -- all locals are there, and the arguments are to be stored
       abbrev Bare : List (Item 𝓤)
-      Bare = ‵ (froom tyPtr l₁₄ 0) ∷ ‵ (fdies tyPtr l₁₄) ∷ ‵ (froom half l₁₃ 0) ∷ ‵ (fdies half l₁₃) ∷ ‵ (froom half l₁₂ 0) ∷ ‵ (fdies half l₁₂) ∷ ‵ (froom tyPtr l₁₁ 0) ∷ ‵ (fdies tyPtr l₁₁) ∷ ‵ (froom word l₁₀ 0) ∷ ‵ (fdies word l₁₀) ∷ ‵ (froom tyBool l₉ 0) ∷ ‵ (fdies tyBool l₉) ∷ ‵ (froom word l₈ 0) ∷ ‵ (fdies word l₈) ∷ ‵ (froom S′.mir l₇ 0) ∷ ‵ (fdies S′.mir l₇) ∷ ‵ (froom word l₆ 0) ∷ ‵ (fdies word l₆) ∷ ‵ (froom half l₅ 0) ∷ ‵ (fdies half l₅) ∷ ‵ (froom word l₄ 0) ∷ ‵ (fdies word l₄) ∷ ‵ (froom levelsTy l₃ 0) ∷ ‵ (fdies levelsTy l₃) ∷ ‵ (froom dsTy l₂ 0) ∷ ‵ (fdies dsTy l₂) ∷ ‵ (froom netTy l₁ 0) ∷ ‵ (fdies netTy l₁) ∷ ‵ (froom half l₀ 0) ∷ ‵ (fdies half l₀) ∷ (‵ (flft κ₀ q₀) ⊛ ‵ (flft κ₁ q₁) ⊛ ‵ (flft κ₂ q₂) ⊛ ‵ ftrue) ∷ ‵ (owns (ShrSlice (named 0) κ₀ u32 ∷ ShrSlice (named 1) κ₁ u32 ∷ MutSlice (named 2) κ₂ T.the-row ∷ usize ∷ []) a vals) ∷ []
+      Bare = ‵ (froom tyPtr l₁₅ 0) ∷ ‵ (fdies tyPtr l₁₅) ∷ ‵ (froom half l₁₄ 0) ∷ ‵ (fdies half l₁₄) ∷ ‵ (froom half l₁₃ 0) ∷ ‵ (fdies half l₁₃) ∷ ‵ (froom tyPtr l₁₂ 0) ∷ ‵ (fdies tyPtr l₁₂) ∷ ‵ (froom word l₁₁ 0) ∷ ‵ (fdies word l₁₁) ∷ ‵ (froom tyBool l₁₀ 0) ∷ ‵ (fdies tyBool l₁₀) ∷ ‵ (froom word l₉ 0) ∷ ‵ (fdies word l₉) ∷ ‵ (froom S′.mir l₈ 0) ∷ ‵ (fdies S′.mir l₈) ∷ ‵ (froom word l₇ 0) ∷ ‵ (fdies word l₇) ∷ ‵ (froom half l₆ 0) ∷ ‵ (fdies half l₆) ∷ ‵ (froom word l₅ 0) ∷ ‵ (fdies word l₅) ∷ ‵ (froom word l₄ 0) ∷ ‵ (fdies word l₄) ∷ ‵ (froom levelsTy l₃ 0) ∷ ‵ (fdies levelsTy l₃) ∷ ‵ (froom dsTy l₂ 0) ∷ ‵ (fdies dsTy l₂) ∷ ‵ (froom netTy l₁ 0) ∷ ‵ (fdies netTy l₁) ∷ ‵ (froom half l₀ 0) ∷ ‵ (fdies half l₀) ∷ (‵ (flft κ₀ q₀) ⊛ ‵ (flft κ₁ q₁) ⊛ ‵ (flft κ₂ q₂) ⊛ ‵ ftrue) ∷ ‵ (owns (ShrSlice (named 0) κ₀ u32 ∷ ShrSlice (named 1) κ₁ u32 ∷ MutSlice (named 2) κ₂ T.the-row ∷ usize ∷ usize ∷ []) a vals) ∷ []
 
-      stored-in : Seq (Go {0}) W Bare (params′ En (sn ∷ sd ∷ s ∷ vint w64 gates ∷ []) (runs C Λ En (code.function .body) (atRet En Post)))
+      stored-in : Seq (Go {0}) W Bare (params′ En (sn ∷ sd ∷ s ∷ vint w64 inputs ∷ vint w64 gates ∷ []) (runs C Λ En (code.function .body) (atRet En Post)))
       stored-in = params1 ! $
-          pass1 ! (init ! 26 refl (tt, (tt, (record { fits = net-room .0 }, tt)))) $ pass1 ! (init ! 24 refl (tt, (tt, (record { fits = ds-room .0 }, tt)))) $ pass1 ! (init ! 22 refl (tt, (tt, (record { fits = room .0 }, tt)))) $
-          pass1 ! (init ! 20 refl (tt, record { fits = gates-fits })) $ pass0 ! $
+          pass1 ! (init ! 28 refl (tt, (tt, (record { fits = net-room .0 }, tt)))) $ pass1 ! (init ! 26 refl (tt, (tt, (record { fits = ds-room .0 }, tt)))) $ pass1 ! (init ! 24 refl (tt, (tt, (record { fits = room .0 }, tt)))) $
+          pass1 ! (init ! 22 refl (tt, record { fits = inputs-fits })) $ pass1 ! (init ! 20 refl (tt, record { fits = gates-fits })) $ pass0 ! $
           by ! begins
 
     -- the MIR up to the loop
-    walk : ent 𝓤 (onEntry 𝓤 H A f.signature (κ₀, (κ₁, (κ₂, tt))) (q₀, (q₁, (q₂, tt))) a vals) (WpFn 𝓤 H C Λ code.function (sn ∷ sd ∷ s ∷ vint w64 gates ∷ []) Post)
+    walk : ent 𝓤 (onEntry 𝓤 H A f.signature (κ₀, (κ₁, (κ₂, tt))) (q₀, (q₁, (q₂, tt))) a vals) (WpFn 𝓤 H C Λ code.function (sn ∷ sd ∷ s ∷ vint w64 inputs ∷ vint w64 gates ∷ []) Post)
     walk =
-        qed W ((‵ (flft κ₀ q₀) ⊛ ‵ (flft κ₁ q₁) ⊛ ‵ (flft κ₂ q₂) ⊛ ‵ ftrue) ∷ ‵ (owns (ShrSlice (named 0) κ₀ u32 ∷ ShrSlice (named 1) κ₁ u32 ∷ MutSlice (named 2) κ₂ T.the-row ∷ usize ∷ []) a vals) ∷ []) ∵
-        enter ! C Λ code.function (sn ∷ sd ∷ s ∷ vint w64 gates ∷ []) _ $
-        alloc1 ! (λ l₀. alloc1 ! (λ l₁. alloc1 ! (λ l₂. alloc1 ! (λ l₃. alloc1 ! (λ l₄. alloc1 ! (λ l₅. alloc1 ! (λ l₆. alloc1 ! (λ l₇. alloc1 ! (λ l₈. alloc1 ! (λ l₉. alloc1 ! (λ l₁₀. alloc1 ! (λ l₁₁. alloc1 ! (λ l₁₂. alloc1 ! (λ l₁₃. alloc1 ! (λ l₁₄. alloc0 ! $ stored-in l₀ l₁ l₂ l₃ l₄ l₅ l₆ l₇ l₈ l₉ l₁₀ l₁₁ l₁₂ l₁₃ l₁₄)))))))))))))))
+        qed W ((‵ (flft κ₀ q₀) ⊛ ‵ (flft κ₁ q₁) ⊛ ‵ (flft κ₂ q₂) ⊛ ‵ ftrue) ∷ ‵ (owns (ShrSlice (named 0) κ₀ u32 ∷ ShrSlice (named 1) κ₁ u32 ∷ MutSlice (named 2) κ₂ T.the-row ∷ usize ∷ usize ∷ []) a vals) ∷ []) ∵
+        enter ! C Λ code.function (sn ∷ sd ∷ s ∷ vint w64 inputs ∷ vint w64 gates ∷ []) _ $
+        alloc1 ! (λ l₀. alloc1 ! (λ l₁. alloc1 ! (λ l₂. alloc1 ! (λ l₃. alloc1 ! (λ l₄. alloc1 ! (λ l₅. alloc1 ! (λ l₆. alloc1 ! (λ l₇. alloc1 ! (λ l₈. alloc1 ! (λ l₉. alloc1 ! (λ l₁₀. alloc1 ! (λ l₁₁. alloc1 ! (λ l₁₂. alloc1 ! (λ l₁₃. alloc1 ! (λ l₁₄. alloc1 ! (λ l₁₅. alloc0 ! $ stored-in l₀ l₁ l₂ l₃ l₄ l₅ l₆ l₇ l₈ l₉ l₁₀ l₁₁ l₁₂ l₁₃ l₁₄ l₁₅))))))))))))))))
 
 module _ {M : Type 1} (𝓤 : URA M) (H : Heap 𝓤) (A : Atoms 𝓤) (W : Given 𝓤 H A) (mem : Memory → SProp 𝓤) (run : Routine → Fun 𝓤) where
   tally-walks : (𝓣 : Tables 𝓤 H) → Triple 𝓤 (𝓣 .C #meter·spot-of) (SpotOf 𝓤 H A mem run) → Walks 𝓤 H A f.ended stayed (WpFn 𝓤 H (𝓣 .C) (𝓣 .Λ) code.function) (f.clauses 𝓤 H A mem run)
   tally-walks 𝓣 known = walked 𝓤 H A f.ended stayed (f.clauses 𝓤 H A mem run) (WpFn 𝓤 H (𝓣 .C) (𝓣 .Λ) code.function)
-      (λ κs. (slice-vals, (slice-vals, (slice-vals, (uint-vals w64, tt)))))
-      (λ κs. (shr-slice-tells (named 0) (κs .0) u32, (shr-slice-tells (named 1) (κs .1 .0) u32, (mut-slice-tells (named 2) (κs .1 .1 .0) T.the-row, (uint-tells w64, tt)))))
+      (λ κs. (slice-vals, (slice-vals, (slice-vals, (uint-vals w64, (uint-vals w64, tt))))))
+      (λ κs. (shr-slice-tells (named 0) (κs .0) u32, (shr-slice-tells (named 1) (κs .1 .0) u32, (mut-slice-tells (named 2) (κs .1 .1 .0) T.the-row, (uint-tells w64, (uint-tells w64, tt))))))
       (λ κs qs bounds a g are. needs 𝓤 _ _ (λ asks.
-      walk 𝓤 H A W mem run (κs .0) (κs .1 .0) (κs .1 .1 .0) (qs .0) (qs .1 .0) (qs .1 .1 .0) (a .0) (a .1 .0) (a .1 .1 .0 .ptr .0) (a .1 .1 .0 .ptr .1) (a .1 .1 .0 .name) (a .1 .1 .0 .now) (a .1 .1 .1 .0)
-      (are .1 .1 .1 .0 .1) (are .0 .0 .1) (are .1 .0 .0 .1) (are .1 .1 .0 .0 .1) asks 𝓣 known))
+      walk 𝓤 H A W mem run (κs .0) (κs .1 .0) (κs .1 .1 .0) (qs .0) (qs .1 .0) (qs .1 .1 .0) (a .0) (a .1 .0) (a .1 .1 .0 .ptr .0) (a .1 .1 .0 .ptr .1) (a .1 .1 .0 .name) (a .1 .1 .0 .now) (a .1 .1 .1 .0) (a .1 .1 .1 .1 .0)
+      (are .1 .1 .1 .0 .1) (are .1 .1 .1 .1 .0 .1) (are .0 .0 .1) (are .1 .0 .0 .1) (are .1 .1 .0 .0 .1) asks 𝓣 known))
 
 tally-meets : {M : Type 1} (𝓤 : URA M) (H : Heap 𝓤) (A : Atoms 𝓤) → Given 𝓤 H A → (mem : Memory → SProp 𝓤) (run : Routine → Fun 𝓤) (𝓣 : Tables 𝓤 H) → Triple 𝓤 (𝓣 .C #meter·spot-of) (SpotOf 𝓤 H A mem run)
     → Meets 𝓤 H A f.signature (WpFn 𝓤 H (𝓣 .C) (𝓣 .Λ) code.function) (f.spec 𝓤 H A mem run)
@@ -369,7 +369,7 @@ tally-meets 𝓤 H A W mem run 𝓣 known =
         goes-none-slice 𝓤 H A W 3 (1 ∷ []) tt (plain (λ _. u32)) yes,
         (
           goes-slice 𝓤 H A W 3 2 tt (plain (λ _. T.the-row)),
-          (goes-none 𝓤 H A W 3 (λ _. usize) yes (λ κs x f. refl), tt),
+          (goes-none 𝓤 H A W 3 (λ _. usize) yes (λ κs x f. refl), (goes-none 𝓤 H A W 3 (λ _. usize) yes (λ κs x f. refl), tt)),
         ),
       ),
     ) (f.clauses 𝓤 H A mem run)
