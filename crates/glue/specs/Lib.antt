@@ -1,2 +1,2 @@
 pub mod Glue
-pub mod Parts
+pub mod Inner

@@ -4,20 +4,25 @@
 use answer::Answer;
 use netlist::GATE_STRIDE;
 use netlist::HEADER_WORDS;
+use netlist::counts::Counts;
+use netlist::counts::counts_of;
+use netlist::counts::put_header;
+use netlist::counts::word_count;
 use netlist::gate::Taken;
 ghost use mathlib.Core.Path.{_≡_};
-ghost use mathlib.Core.List.{[], _∷_, _++_, map};
+ghost use mathlib.Core.List.{[], _∷_, map};
 ghost use Prim.Native.Nat.{_+_, _<_, _≤_};
-ghost use lib.ListN.{length, drop};
+ghost use lib.ListN.{length};
 ghost use lib.Dec.{ltb};
 ghost use lib.Seq.{sets};
 ghost use Rattle.answer.specs.Choose.{choose};
 ghost use Rattle.answer.specs.Fronts.{over};
-ghost use Rattle.netlist.specs.Words.{gatesOf, gatePlace, gatesWords, gatesAt};
+ghost use Rattle.netlist.specs.Words.{headerWords, gateStride, gatesOf, gatesWords, gatesAt};
 ghost use Rattle.netlist.specs.Glue.{thru, ren};
 ghost use Rattle.netlist.specs.Check.{outputLimit};
-ghost use Rattle.glue.specs.Glue.{glueAnswer, gluedWords, GluedAs};
-ghost use Rattle.glue.specs.Parts.{SmallAll, secondWords, Second, Fit};
+ghost use Rattle.netlist.specs.Sound.{Limits};
+ghost use Rattle.glue.specs.Glue.{gluedCounts, fitAnswer, glueAnswer, gluedWords, GluedAs, Fit};
+ghost use Rattle.glue.specs.Inner.{SmallAll, secondWords, Second};
 
 // Where wire i of the second netlist stands, if used is 1: outs are the first's outputs, base the number of
 // its wires. If it is 0, 0: reckoned with and not branched on, since kinds come in no order.
@@ -35,7 +40,7 @@ fn wire(outs: &[u32], base: u32, used: u32, i: u32) -> u32
 }
 
 fn put_gate(out: &mut [u32], at: usize, kind: u32, a: u32, b: u32, c: u32)
-    requires { ⌜ at + 4 ≤ length (now out) ⌝ }
+    requires { ⌜ at + gateStride ≤ length (now out) ⌝ }
     ensures { λ r. ⌜ now (out .exit) ≡ sets (now (out .entry)) at (kind ∷ a ∷ b ∷ c ∷ []) ⌝ }
 {
     out[at] = kind;
@@ -48,7 +53,7 @@ fn put_gate(out: &mut [u32], at: usize, kind: u32, a: u32, b: u32, c: u32)
 // is not.
 fn put_gates(second: &[u32], gates: usize, outs: &[u32], base: u32, out: &mut [u32])
     requires { ⌜ (Second (now second) (now outs) base (length (now out))) × (gates ≡ gatesOf (now second)) ⌝ }
-    ensures { λ r. ⌜ now (out .exit) ≡ over (gatesWords (map (ren (thru (now (outs .entry)) base)) (gatesAt (now (second .entry)) 3 gates))) (now (out .entry)) ⌝ }
+    ensures { λ r. ⌜ now (out .exit) ≡ over (gatesWords (map (ren (thru (now (outs .entry)) base)) (gatesAt (now (second .entry)) headerWords gates))) (now (out .entry)) ⌝ }
 {
     let mut g: usize = 0;
     while g < gates {
@@ -88,20 +93,11 @@ fn put_second(second: &[u32], outs: &[u32], base: u32, out: &mut [u32])
     requires { ⌜ Second (now second) (now outs) base (length (now out)) ⌝ }
     ensures { λ r. ⌜ now (out .exit) ≡ over (secondWords (now (second .entry)) (now (outs .entry)) base) (now (out .entry)) ⌝ }
 {
-    let gates = second[1] as usize;
+    let gates = counts_of(second).gates as usize;
     let start = HEADER_WORDS + GATE_STRIDE * gates;
     let end = GATE_STRIDE * gates;
     put_gates(second, gates, outs, base, out);
     put_outputs(&second[start..], outs, base, &mut out[end..]);
-}
-
-fn put_header(out: &mut [u32], inputs: u32, gates: u32, outputs: u32)
-    requires { ⌜ 3 ≤ length (now out) ⌝ }
-    ensures { λ r. ⌜ now (out .exit) ≡ over (inputs ∷ gates ∷ outputs ∷ []) (now (out .entry)) ⌝ }
-{
-    out[0] = inputs;
-    out[1] = gates;
-    out[2] = outputs;
 }
 
 fn copy(from: &[u32], out: &mut [u32])
@@ -115,17 +111,45 @@ fn copy(from: &[u32], out: &mut [u32])
     }
 }
 
+// The glued netlist's counts.
+fn glued(a: Counts, b: Counts) -> Counts
+    requires { ⌜ Limits a × Limits b ⌝ }
+    ensures { λ r. ⌜ r ≡ gluedCounts a b ⌝ }
+{
+    Counts {
+        inputs: a.inputs,
+        gates: a.gates + b.gates,
+        outputs: b.outputs,
+    }
+}
+
 // The glued netlist's words. The part after the first's gates is lent to the writer of the second.
 fn write(first: &[u32], second: &[u32], out: &mut [u32])
     requires { ⌜ Fit (now first) (now second) (length (now out)) ⌝ }
     ensures { λ r. ⌜ now (out .exit) ≡ over (gluedWords (now (first .entry)) (now (second .entry))) (now (out .entry)) ⌝ }
 {
-    let inputs = first[0];
-    let gates = first[1];
+    let counts = counts_of(first);
+    let inputs = counts.inputs;
+    let gates = counts.gates;
     let at = HEADER_WORDS + GATE_STRIDE * (gates as usize);
-    put_header(out, inputs, gates + second[1], second[2]);
+    put_header(out, glued(counts, counts_of(second)));
     copy(&first[HEADER_WORDS..at], &mut out[HEADER_WORDS..]);
     put_second(second, &first[at..], inputs + gates, &mut out[at..]);
+}
+
+// Whether the two fit, and have not too many gates.
+fn fitting(a: Counts, b: Counts) -> Answer
+    requires { ⌜ Limits a × Limits b ⌝ }
+    ensures { λ r. ⌜ r ≡ fitAnswer a b ⌝ }
+{
+    if a.outputs != b.inputs {
+        return answer::refused(answer::FIT, 0, 0);
+    }
+    let whole = glued(a, b);
+    if netlist::GATE_LIMIT < whole.gates {
+        return answer::refused(answer::GATES, 0, 0);
+    }
+    Answer::Done
 }
 
 fn judge(first: &[u32], second: &[u32], room: usize) -> Answer
@@ -139,29 +163,13 @@ fn judge(first: &[u32], second: &[u32], room: usize) -> Answer
     let Answer::Done = s else {
         return s;
     };
-    let gates = first[1] + second[1];
-    if room < HEADER_WORDS + GATE_STRIDE * (gates as usize) + second[2] as usize {
-        return Answer::Refused {
-            number: answer::ROOM,
-            list: 3,
-            place: room,
-        };
-    }
-    if first[2] != second[0] {
-        return Answer::Refused {
-            number: answer::FIT,
-            list: 0,
-            place: 0,
-        };
-    }
-    if netlist::GATE_LIMIT < gates {
-        return Answer::Refused {
-            number: answer::GATES,
-            list: 0,
-            place: 0,
-        };
-    }
-    Answer::Done
+    let a = counts_of(first);
+    let b = counts_of(second);
+    let space = answer::room(room, word_count(glued(a, b)), 3);
+    let Answer::Done = space else {
+        return space;
+    };
+    fitting(a, b)
 }
 
 // The first netlist glued to the second.

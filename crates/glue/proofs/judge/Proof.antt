@@ -1,40 +1,56 @@
-use lib.Dec.{ltb, eqb}
-use Rattle.answer.specs.declared.Answer.{Answer}
-use Rattle.answer.specs.Answers.{_▹_, refuse}
-use Rattle.netlist.specs.Words.{inputsOf, gatesOf, outputsOf}
-use Rattle.netlist.specs.Check.{gateLimit}
-use Rattle.glue.specs.Glue.{gluedSize, glueAnswer}
-use Prim.Native.Nat.{_+_}
-use mathlib.Core.Path.{_≡_, refl, sym, ap, _∙_}
-use mathlib.Core.Bool.{not}
-use native.Mathlib.Omega.{arith}
-use borrow.Author.Tests.{lt-ltb, le-ltb, eq-eqb, ne-eqb}
+use mathlib.Core.Path.{_≡_, sym, ap, ap₂, _∙_}
 use denote.Ref.{now}
-use Rattle.answer.proofs.Rows.{stop, go, pass, refuse-not, refuse-yes}
+use Rattle.answer.specs.Judges.{roomAnswer}
+use Rattle.answer.proofs.Rows.{stop, go}
+use Rattle.netlist.specs.Words.{countsOf, wordCount}
 use Rattle.netlist.specs.Sound.{Sound}
 use Rattle.netlist.proofs.Accepted.{done-sound}
+use Rattle.glue.specs.Glue.{gluedCounts, gluedSize, fitAnswer, glueAnswer}
 use borrow.Author.Needs.{needs}
 use Rattle.glue.proofs.judge.Statement.{statement}
 use Rattle.glue.proofs.judge.Tie as tie
 
+-- the steps, one before the other, down to what was lent
+abbrev lent : tie.After-enum-told → tie.Start
+lent c = c .before .before .before .before .before
+
+abbrev firstTold : tie.After-enum-told3 → tie.After-enum-told
+firstTold c = c .before .before .before
+
+abbrev secondTold : tie.After-counts-of2 → tie.After-enum-told3
+secondTold c = c .before .before
+
+abbrev countsAt : tie.After-room → tie.After-counts-of2
+countsAt c = c .before .before .before
+
+abbrev lentAt : tie.After-counts-of2 → tie.Start
+lentAt c = lent (firstTold (secondTold c))
+
 -- both netlists were accepted
-firsts : (c : tie.After-enum-told3) → Sound (now (c .before .before .before .before .before .before .before .before .args .first))
-firsts c = done-sound 1 _ (sym (c .before .before .before .before .before .check-as .ensures) ∙ c .before .before .before .enum-told .given .1)
+firsts : (c : tie.After-counts-of2) → Sound (now (lentAt c .args .first))
+firsts c =
+    let t = firstTold (secondTold c) in
+    done-sound 1 _ (sym (t .before .before .check-as .ensures) ∙ t .enum-told .given .1)
 
-seconds : (c : tie.After-enum-told3) → Sound (now (c .before .before .before .before .before .before .before .before .args .second))
-seconds c = done-sound 2 _ (sym (c .before .before .check-as2 .ensures) ∙ c .enum-told3 .given .1)
+seconds : (c : tie.After-counts-of2) → Sound (now (lentAt c .args .second))
+seconds c =
+    let t = secondTold c in
+    done-sound 2 _ (sym (t .before .before .check-as2 .ensures) ∙ t .enum-told3 .given .1)
 
--- what is judged once both are
-after-checks : (c : tie.After-enum-told3) (s : Answer) →
-    let d = c .before .before .before .before .before .before .before .before .args in
-    let a = now (d .first) in
-    let b = now (d .second) in
-    s ≡ refuse 8 3 (d .room) (ltb (d .room) (gluedSize a b)) ▹ refuse 10 0 0 (not (eqb (outputsOf a) (inputsOf b))) ▹ refuse 11 0 0 (ltb gateLimit (gatesOf a + gatesOf b))
-    → s ≡ glueAnswer a b (d .room)
-unfolding glueAnswer
-after-checks c s e =
-    go (c .before .before .before .before .before .check-as .ensures) (c .before .before .before .enum-told .given .1)
-    (go (c .before .before .check-as2 .ensures) (c .enum-told3 .given .1) e)
+-- their counts, and what was answered of the room
+firstCounts : (c : tie.After-counts-of2) → c .before .counts-of .result ≡ countsOf (now (lentAt c .args .first))
+firstCounts c = c .before .counts-of .ensures
+
+secondCounts : (c : tie.After-counts-of2) → c .counts-of2 .result ≡ countsOf (now (lentAt c .args .second))
+secondCounts c = c .counts-of2 .ensures
+
+roomed : (c : tie.After-room) →
+    let s = lentAt (countsAt c) .args in
+    c .room .result ≡ roomAnswer 3 (s .room) (gluedSize (now (s .first)) (now (s .second)))
+roomed c =
+    let size = c .before in
+    let whole = size .before .glued .ensures ∙ ap₂ gluedCounts (firstCounts (countsAt c)) (secondCounts (countsAt c)) in
+    c .room .ensures ∙ ap (roomAnswer 3 _) (size .word-count .ensures ∙ ap wordCount whole)
 
 check-as-requires : tie.Need-check-as-requires
 check-as-requires c κs = search needs
@@ -62,63 +78,55 @@ returns-2 : tie.Need-returns-2
 unfolding glueAnswer
 returns-2 c =
     let k = c .before .before in
-    go (k .before .before .before .check-as .ensures) (k .before .enum-told .given .1) (stop _ (k .check-as2 .ensures) (c .enum-told4 .given .1))
+    let t = k .before in
+    go (t .before .before .check-as .ensures) (t .enum-told .given .1) (stop _ (k .check-as2 .ensures) (c .enum-told4 .given .1))
 
-shared-slice-read-gates : tie.Need-shared-slice-read-gates
-shared-slice-read-gates c = omega (arith, firsts (c .before) .size)
+counts-of-requires : tie.Need-counts-of-requires
+counts-of-requires c κs = search needs
 
-shared-slice-read-gates-2 : tie.Need-shared-slice-read-gates-2
-shared-slice-read-gates-2 c = omega (arith, seconds (c .before .before) .size)
+counts-of-requires-2 : tie.Need-counts-of-requires-2
+counts-of-requires-2 c κs = search needs
 
-add-gates : tie.Need-add-gates
-add-gates c = omega (arith, firsts (c .before .before) .limits, seconds (c .before .before) .limits)
+glued-requires : tie.Need-glued-requires
+glued-requires c κs = (rw (firstCounts c) (firsts c .limits), rw (secondCounts c) (seconds c .limits))
 
-cast-if1 : tie.Need-cast-if1
-cast-if1 c = omega (arith, firsts (c .before .before) .limits, seconds (c .before .before) .limits)
+word-count-requires : tie.Need-word-count-requires
+word-count-requires c κs = search needs
 
-mul-if1 : tie.Need-mul-if1
-mul-if1 c = omega (arith, firsts (c .before .before) .limits, seconds (c .before .before) .limits)
+room-requires : tie.Need-room-requires
+room-requires c κs = search needs
 
-add-if1 : tie.Need-add-if1
-add-if1 c = omega (arith, firsts (c .before .before) .limits, seconds (c .before .before) .limits)
+enum-told-5 : tie.Need-enum-told-5
+enum-told-5 c = search needs
 
-shared-slice-read-if1 : tie.Need-shared-slice-read-if1
-shared-slice-read-if1 c = omega (arith, seconds (c .before .before .before) .size)
-
-cast-if1-2 : tie.Need-cast-if1-2
-cast-if1-2 c = omega (arith, firsts (c .before .before .before) .limits, seconds (c .before .before .before) .limits)
-
-add-if1-2 : tie.Need-add-if1-2
-add-if1-2 c = omega (arith, firsts (c .before .before .before) .limits, seconds (c .before .before .before) .limits)
+enum-told-6 : tie.Need-enum-told-6
+enum-told-6 c = search needs
 
 returns-3 : tie.Need-returns-3
-returns-3 c = after-checks (c .before .before .before .before) _ (stop _ (refuse-yes _ _ _ (lt-ltb _ _ (c .if1 .taken))) refl)
+unfolding glueAnswer
+returns-3 c =
+    let space = c .before .before in
+    let s = secondTold (countsAt space) in
+    let t = firstTold s in
+    go (t .before .before .check-as .ensures) (t .enum-told .given .1)
+    (go (s .before .before .check-as2 .ensures) (s .enum-told3 .given .1) (stop _ (roomed space) (c .enum-told6 .given .1)))
 
-shared-slice-read-if2 : tie.Need-shared-slice-read-if2
-shared-slice-read-if2 c = omega (arith, firsts (c .before .before .before .before .before) .size)
-
-shared-slice-read-if2-2 : tie.Need-shared-slice-read-if2-2
-shared-slice-read-if2-2 c = omega (arith, seconds (c .before .before .before .before .before .before) .size)
+fitting-requires : tie.Need-fitting-requires
+fitting-requires c κs =
+    let n = countsAt (c .before .before) in
+    (rw (firstCounts n) (firsts n .limits), rw (secondCounts n) (seconds n .limits))
 
 returns-4 : tie.Need-returns-4
+unfolding glueAnswer
 returns-4 c =
-    let d = c .before .before .before in
-    after-checks (d .before .before .before .before) _
-    (pass (refuse-not _ _ _ (le-ltb _ _ (d .if1 .left))) (stop _ (refuse-yes _ _ _ (ap not (ne-eqb _ _ (c .if2 .taken)))) refl))
-
-returns-5 : tie.Need-returns-5
-returns-5 c =
-    let d = c .before .before .before .before in
-    after-checks (d .before .before .before .before) _
-    (pass (refuse-not _ _ _ (le-ltb _ _ (d .if1 .left)))
-    (pass (refuse-not _ _ _ (ap not (eq-eqb _ _ (c .before .if2 .left)))) (refuse-yes _ _ _ (lt-ltb _ _ (c .if3 .taken)))))
-
-returns-6 : tie.Need-returns-6
-returns-6 c =
-    let d = c .before .before .before .before in
-    after-checks (d .before .before .before .before) _
-    (pass (refuse-not _ _ _ (le-ltb _ _ (d .if1 .left)))
-    (pass (refuse-not _ _ _ (ap not (eq-eqb _ _ (c .before .if2 .left)))) (sym (refuse-not _ _ _ (le-ltb _ _ (c .if3 .left))))))
+    let enough = c .before in
+    let space = enough .before .before in
+    let n = countsAt space in
+    let s = secondTold n in
+    let t = firstTold s in
+    go (t .before .before .check-as .ensures) (t .enum-told .given .1)
+    (go (s .before .before .check-as2 .ensures) (s .enum-told3 .given .1)
+    (go (roomed space) (enough .enum-told5 .given .1) (c .fitting .ensures ∙ ap₂ fitAnswer (firstCounts n) (secondCounts n))))
 
 pub judge-spec : {M : Type 1} → statement M
 judge-spec =
@@ -132,18 +140,13 @@ judge-spec =
     enum-told-3
     enum-told-4
     returns-2
-    shared-slice-read-gates
-    shared-slice-read-gates-2
-    add-gates
-    cast-if1
-    mul-if1
-    add-if1
-    shared-slice-read-if1
-    cast-if1-2
-    add-if1-2
+    counts-of-requires
+    counts-of-requires-2
+    glued-requires
+    word-count-requires
+    room-requires
+    enum-told-5
+    enum-told-6
     returns-3
-    shared-slice-read-if2
-    shared-slice-read-if2-2
-    returns-4
-    returns-5
-    returns-6)
+    fitting-requires
+    returns-4)

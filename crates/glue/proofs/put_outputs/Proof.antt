@@ -28,8 +28,9 @@ shared-slice-read-wire c = search needs
 
 wire-requires : tie.Need-wire-requires Inv-loop μ-loop
 wire-requires c κs =
-    let p = c .before .before .before .before .before .before .pre in
-    (search needs, p .2, p .1 (c .before .before .loop .o) (search needs))
+    let l = c .before .before in
+    let p = l .before .before .before .before .pre in
+    (search needs, p .2, p .1 (l .loop .o) (search needs))
 
 mul-out : tie.Need-mul-out Inv-loop μ-loop
 mul-out c = search needs
@@ -45,8 +46,9 @@ loop-less c = search needs
 
 loop-again : tie.Need-loop-again Inv-loop μ-loop
 loop-again c =
-    let l = c .before .before .before .loop in
-    let a = c .before .before .before .before .before .before .before .args in
+    let turn = c .before .before .before in
+    let l = turn .loop in
+    let a = turn .before .before .before .before .args in
     (rw (c .wire .ensures, l .inv .0) (over-map (thru (a .outs .now) (a .base)) (a .wires .now) (a .out .now) (l .o) (search needs) (search needs)), search needs, search needs, search needs)
 
 same-length : tie.Need-same-length Inv-loop μ-loop

@@ -1,13 +1,11 @@
--- What the writers of the parts of a glued netlist are lent and write.
+-- Inner: what the contracts of private functions cite. What the writers of the parts of a glued netlist are lent and write.
 use Prim.Native.Nat.{ℕ, _+_, _*_, _<_, _≤_}
-use mathlib.Core.Path.{_≡_}
 use mathlib.Core.List.{List, _++_, map}
 use lib.ListN.{length, getD, drop}
-use Rattle.netlist.specs.Words.{inputsOf, gatesOf, outputsOf, gatePlace, gatesWords, gatesAt}
+use Rattle.netlist.specs.Words.{headerWords, gateStride, gatePlace, gatesOf, outputsOf, gatesWords, gatesAt}
 use Rattle.netlist.specs.Glue.{ren, thru}
-use Rattle.netlist.specs.Check.{gateLimit, outputLimit}
+use Rattle.netlist.specs.Check.{outputLimit}
 use Rattle.netlist.specs.Sound.{Sound}
-use Rattle.glue.specs.Glue.{gluedSize}
 
 -- behind base wires, some wires are still words
 abbrev pub SmallAll : ℕ → List ℕ → Type 0
@@ -16,19 +14,11 @@ SmallAll base wires = (i : ℕ) → i < length wires → base + getD wires i 0 <
 -- the second netlist's gates and then its outputs, over the wires of the glued one
 unfoldable pub secondWords : List ℕ → List ℕ → ℕ → List ℕ
 secondWords b outs base =
-    gatesWords (map (ren (thru outs base)) (gatesAt b 3 (gatesOf b))) ++ map (thru outs base) (drop (gatePlace (gatesOf b)) b)
+    gatesWords (map (ren (thru outs base)) (gatesAt b headerWords (gatesOf b))) ++ map (thru outs base) (drop (gatePlace (gatesOf b)) b)
 
 -- a sound second netlist behind base wires, outs for its inputs, and room for its gates and outputs
 pub record Second (b outs : List ℕ) (base room : ℕ) : Type 0 where
   pub sound : Sound b
   pub few : base < 1000000
   pub inputs : length outs ≤ outputLimit
-  pub space : 4 * gatesOf b + outputsOf b ≤ room
-
--- two sound netlists that fit, and room for the glued one
-pub record Fit (a b : List ℕ) (room : ℕ) : Type 0 where
-  pub first : Sound a
-  pub second : Sound b
-  pub space : gluedSize a b ≤ room
-  pub fits : outputsOf a ≡ inputsOf b
-  pub few : gatesOf a + gatesOf b ≤ gateLimit
+  pub space : gateStride * gatesOf b + outputsOf b ≤ room
