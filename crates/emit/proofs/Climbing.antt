@@ -10,7 +10,7 @@ use Rattle.cells.specs.InnerLoop.{pos, down, tail, lowGates, sumGates, cells, f
 use Rattle.emit.specs.declared.levels.Level.{Level}
 use Rattle.netlist.specs.Put.{putGates}
 use Rattle.netlist.proofs.Puts.{put-append, put-length, more}
-use Rattle.emit.specs.Levels.{levelGates, levelSize, afterLevel, levelsOf, LevelFits, StepFits, firstLevel}
+use Rattle.emit.specs.InnerLevels.{levelGates, levelSize, afterLevel, levelsOf, LevelFits, StepFits, firstLevel}
 use Rattle.emit.proofs.Leaves.{pos-le, low-length, tail-length, sum-length, first-length}
 
 level-length : (r : Level) (x : ℕ) → length (levelGates r x) ≡ levelSize r

@@ -17,7 +17,7 @@ use Rattle.wiring.specs.Costs.{costOf}
 use Rattle.wiring.specs.Decipher.{nots, bitPart, rowAt, partAt, bitsGates, bitsOuts}
 use Rattle.wiring.proofs.Whitening.{vars-length}
 use Rattle.wiring.proofs.Deciphers.{row-length}
-use Rattle.emit.specs.Rows.{Wiring}
+use Rattle.emit.specs.InnerRows.{Wiring}
 use Rattle.emit.proofs.RowsBit.{part-length, part-last}
 use Rattle.emit.proofs.RowsVariables.{nots-few}
 use Rattle.emit.proofs.RowsTable.{large}

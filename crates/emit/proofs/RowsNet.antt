@@ -1,13 +1,13 @@
 -- The netlist's words from its parts, the room that these take, and how many gates there are.
 use Prim.Native.Nat.{ℕ, _+_, _*_, _<_, _≤_}
 use mathlib.Core.Path.{_≡_, sym, ap, ap₂, _∙_}
-use mathlib.Core.List.{List, [], _∷_}
+use mathlib.Core.List.{List}
 use native.Mathlib.Omega.{arith}
 use native.Mathlib.Nat.{mul-le-mul}
 use lib.ListN.{length}
 use lib.Seq.{sets}
 use Rattle.answer.specs.Fronts.{over}
-use Rattle.netlist.specs.Words.{words}
+use Rattle.netlist.specs.Words.{headerWords, gatePlace, header, words}
 use Rattle.netlist.specs.Put.{putGates}
 use Rattle.netlist.proofs.Puts.{words-length, net-put}
 use Rattle.instance.specs.Table.{keyBits, rowBits}
@@ -19,7 +19,7 @@ use Rattle.wiring.specs.Costs.{costOf}
 use Rattle.wiring.specs.Decipher.{bitsGates, bitsOuts, rowsNet}
 use Rattle.wiring.specs.Rows.{Rows}
 use Rattle.wiring.proofs.Claims.{rows-gates, rows-outs}
-use Rattle.emit.specs.Rows.{Wiring}
+use Rattle.emit.specs.InnerRows.{Wiring}
 
 module _ (inst m : ℕ) (idx wh : List ℕ) (W : Wiring inst m idx wh) where
   net-outs : length (rowsNet chain inst idx wh m .outs) ≡ m
@@ -39,22 +39,20 @@ module _ (inst m : ℕ) (idx wh : List ℕ) (W : Wiring inst m idx wh) where
     unfolding rowsNet
     inputs-are = en
 
-    pub bits-room : (len : ℕ) → length (words (rowsNet chain inst idx wh m)) ≤ len → 3 + 4 * length (bitsGates chain inst idx wh l 0 next) ≤ len
+    pub bits-room : (len : ℕ) → length (words (rowsNet chain inst idx wh m)) ≤ len → gatePlace (length (bitsGates chain inst idx wh l 0 next)) ≤ len
     bits-room len h = omega (arith, words-length (rowsNet chain inst idx wh m), ap length gates-are)
 
     pub net-stored : (out o₁ o₂ o₃ wires : List ℕ) (g : ℕ) → g ≡ length (rowsNet chain inst idx wh m .gates) → length (words (rowsNet chain inst idx wh m)) ≤ length out
-        → o₁ ≡ sets out 0 (next ∷ g ∷ m ∷ []) → o₂ ≡ putGates o₁ 3 (bitsGates chain inst idx wh l 0 next) → wires ≡ bitsOuts chain inst idx wh l 0 next
-        → o₃ ≡ sets o₂ (3 + 4 * g) wires → o₃ ≡ over (words (rowsNet chain inst idx wh m)) out
+        → o₁ ≡ sets out 0 (header record { inputs = next; gates = g; outputs = m }) → o₂ ≡ putGates o₁ headerWords (bitsGates chain inst idx wh l 0 next) → wires ≡ bitsOuts chain inst idx wh l 0 next
+        → o₃ ≡ sets o₂ (gatePlace g) wires → o₃ ≡ over (words (rowsNet chain inst idx wh m)) out
     net-stored out o₁ o₂ o₃ wires g eg room e₁ e₂ ew e₃ =
-        net-put (rowsNet chain inst idx wh m) out o₁ o₂ o₃ next g m (3 + 4 * g) inputs-are eg (sym net-outs) (ap (λ (k : ℕ). 3 + 4 * k) eg) room e₁
-        (e₂ ∙ ap (putGates o₁ 3) gates-are) (e₃ ∙ ap (sets o₂ (3 + 4 * g)) (ew ∙ outs-are))
+        net-put (rowsNet chain inst idx wh m) out o₁ o₂ o₃ _ (gatePlace g)
+        (λ k. record { inputs = inputs-are k; gates = eg k; outputs = sym net-outs k }) (ap gatePlace eg) room e₁
+        (e₂ ∙ ap (putGates o₁ headerWords) gates-are) (e₃ ∙ ap (sets o₂ (gatePlace g)) (ew ∙ outs-are))
 
-  -- for judging room: header, g gates, an output a bit
-  pub net-words : (g : ℕ) → g ≡ length (rowsNet chain inst idx wh m .gates) → length (words (rowsNet chain inst idx wh m)) ≡ 3 + 4 * g + m
-  net-words g e = omega (arith, words-length (rowsNet chain inst idx wh m), net-outs)
-
-  pub outs-room : (len g l : ℕ) → l ≡ m → g ≡ length (rowsNet chain inst idx wh m .gates) → length (words (rowsNet chain inst idx wh m)) ≤ len → 3 + 4 * g + l ≤ len
-  outs-room len g l el eg h = omega (arith, net-words g eg)
+  -- room for l outputs behind g gates
+  pub outs-room : (len g l : ℕ) → l ≡ m → g ≡ length (rowsNet chain inst idx wh m .gates) → length (words (rowsNet chain inst idx wh m)) ≤ len → gatePlace g + l ≤ len
+  outs-room len g l el eg h = omega (arith, words-length (rowsNet chain inst idx wh m), net-outs)
 
 pub wiring-of : (inst m l : ℕ) (idx wh : List ℕ) → l ≡ m → Wiring inst m idx wh → Wiring inst l idx wh
 wiring-of inst m l idx wh e W = rw e W

@@ -16,7 +16,7 @@ use Rattle.netlist.proofs.Puts as puts
 use Rattle.filter.proofs.Published.{total}
 use Rattle.wiring.specs.Exp.{Exp, sum, emit, Split, one, two, factors, chain, product, addAll, monomials}
 use Rattle.wiring.specs.Inner.{fits}
-use Rattle.emit.specs.Rows.{term}
+use Rattle.emit.specs.InnerRows.{term}
 use Rattle.wiring.proofs.Products.{chain-splits, Fits, fits-cons}
 use Rattle.emit.proofs.Writes.{wrote-same}
 

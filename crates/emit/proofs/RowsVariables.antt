@@ -12,7 +12,7 @@ use Rattle.netlist.specs.Gates.{gateWords}
 use Rattle.netlist.specs.Put.{putGates}
 use Rattle.netlist.proofs.Puts.{Awaits, put-over}
 use Rattle.wiring.specs.Decipher.{nots, vars}
-use Rattle.emit.specs.Rows.{wireOf, flips}
+use Rattle.emit.specs.InnerRows.{wireOf, flips}
 
 nots-one : (p w : ℕ) (ps ws : List ℕ) → nots (p ∷ ps) (w ∷ ws) ≡ nots (p ∷ []) (w ∷ []) ++ nots ps ws
 unfolding nots

@@ -20,7 +20,7 @@ use Rattle.netlist.specs.declared.gate.Gate.{Gate}
 use Rattle.netlist.specs.declared.gate.Gate.the-variants.{Zero, One}
 use Rattle.netlist.specs.Gates.{gateWords}
 use Rattle.netlist.specs.Net.{Net}
-use Rattle.netlist.specs.Words.{words}
+use Rattle.netlist.specs.Words.{wordCount, netCounts, words}
 use Rattle.netlist.specs.Part.{Part}
 use Rattle.netlist.specs.Glue.{upFrom}
 use Rattle.netlist.proofs.Sim.{split}
@@ -29,6 +29,7 @@ use Rattle.answer.specs.Judges.{roomAnswer}
 use Rattle.answer.proofs.Judges.{room-done}
 use Rattle.cells.specs.Cells.{oneHotNet, thresholdPart, thresholdNet, allGates, lastLevel, firstLevel, firstGates, levelsGates, levelsEnd}
 use Rattle.cells.specs.InnerLoop.{cells}
+use Rattle.cells.proofs.Facts.{one-hot-inputs, one-hot-outputs, threshold-inputs, threshold-outputs}
 use Rattle.cells.proofs.Same.{threshold-part-loop, threshold-net-loop, threshold-net-zero, one-hot-loop}
 use Rattle.netlist.specs.Emitted.{Emitted}
 use Rattle.netlist.specs.Put.{putGates, Wrote}
@@ -76,11 +77,6 @@ hot-cells zero h = absurd (h refl)
 hot-cells (suc zero) h = hot-one
 hot-cells (suc (suc n)) h = ap Net.gates (one-hot-loop (suc (suc n)) (omega arith))
 
-pub hot-inputs : (n : ℕ) → oneHotNet n .inputs ≡ n
-unfolding oneHotNet
-hot-inputs zero = refl
-hot-inputs (suc n) = refl
-
 hot-outs-1 : oneHotNet 1 .outs ≡ 1 ∷ 0 ∷ []
 unfolding oneHotNet lastLevel firstLevel levelsEnd
 hot-outs-1 = refl
@@ -99,10 +95,9 @@ hot-outs (suc (suc n)) g h e =
     let k = suc (suc n) in
     ap (λ (x : ℕ). upFrom (x - 1) (k + 1)) (e ∙ ap length (hot-cells k (λ q. absurd (omega arith)))) ∙ ap Net.outs (sym (one-hot-loop k (omega arith)))
 
-pub hot-count : (n : ℕ) → length (oneHotNet n .outs) ≡ n + 1
-hot-count zero = ap length hot-outs-0
-hot-count (suc zero) = ap length hot-outs-1
-hot-count (suc (suc n)) = let k = suc (suc n) in ap (λ (x : Net). length (x .outs)) (one-hot-loop k (omega arith)) ∙ upFrom-length _ (k + 1)
+-- in the code's words: all three counts, where g are the gates
+pub hot-counts : (n g : ℕ) → g ≡ length (oneHotNet n .gates) → record { inputs = n; gates = g; outputs = n + 1 } ≡ netCounts (oneHotNet n)
+hot-counts n g e k = record { inputs = sym (one-hot-inputs n) k; gates = e k; outputs = sym (one-hot-outputs n) k }
 
 pub hot-some : (n : ℕ) → 1 ≤ length (oneHotNet n .gates)
 hot-some zero = rw (hot-none 0 refl) (omega arith)
@@ -120,13 +115,8 @@ threshold-zero d n h k = ap Net.gates (zero-net d n h k)
 pub threshold-cells : (d n : ℕ) → 1 ≤ d → d ≤ n → thresholdNet d n .gates ≡ cells (upFrom 0 n) (n - d) d n
 threshold-cells d n h k = ap Net.gates (threshold-net-loop d n h k)
 
-pub threshold-inputs : (d n : ℕ) → thresholdNet d n .inputs ≡ n
-unfolding thresholdNet
-threshold-inputs d n = refl
-
-pub threshold-count : (d n : ℕ) → length (thresholdNet d n .outs) ≡ 1
-unfolding thresholdNet
-threshold-count d n = refl
+pub threshold-counts : (d n g : ℕ) → g ≡ length (thresholdNet d n .gates) → record { inputs = n; gates = g; outputs = 1 } ≡ netCounts (thresholdNet d n)
+threshold-counts d n g e k = record { inputs = sym (threshold-inputs d n) k; gates = e k; outputs = sym (threshold-outputs d n) k }
 
 -- the output is the last wire; where there are no inputs there is a ZERO
 threshold-end : (d n : ℕ) → 1 ≤ d → d ≤ n + 1 → (thresholdNet d n .outs ≡ (n + length (thresholdNet d n .gates) - 1) ∷ []) × (1 ≤ n + length (thresholdNet d n .gates))
@@ -171,10 +161,10 @@ module _ (shape : Bool) (net : Net) (out : List ℕ) where
   abbrev due : Answer
   due = refuse 13 0 0 shape ▹ roomAnswer 1 (length out) (length (words net))
 
-  pub no-shape : shape ≡ true → Emitted due net out (Refused 13 0 0) out
-  no-shape e = record { answered = stop _ (refuse-yes 13 0 0 e) refl; written = kept _ _ refl }
+  pub no-shape : (r : Answer) → shape ≡ true → r ≡ Refused 13 0 0 → Emitted due net out r out
+  no-shape r e f = record { answered = f ∙ stop _ (refuse-yes 13 0 0 e) refl; written = kept _ _ f }
 
-  module _ (good : shape ≡ false) (r : Answer) (need : ℕ) (counted : need ≡ 3 + 4 * length (net .gates) + length (net .outs)) (judged : r ≡ roomAnswer 1 (length out) need) where
+  module _ (good : shape ≡ false) (r : Answer) (need : ℕ) (counted : need ≡ wordCount (netCounts net)) (judged : r ≡ roomAnswer 1 (length out) need) where
     answered-room : r ≡ due
     answered-room = pass (refuse-not 13 0 0 good) (judged ∙ ap (roomAnswer 1 (length out)) (counted ∙ sym (words-length net)))
 

@@ -1,5 +1,5 @@
 -- What the calls of emission answer. docs/RULES.md, "What is emitted" and "Answer numbers".
-use Prim.Native.Nat.{ℕ, _+_, _*_}
+use Prim.Native.Nat.{ℕ, _+_}
 use mathlib.Core.Bool.{Bool, true}
 use mathlib.Core.List.{List}
 use lib.ListN.{length}
@@ -7,13 +7,12 @@ use lib.Dec.{ltb, eqb}
 use Rattle.answer.specs.declared.Answer.{Answer}
 use Rattle.answer.specs.declared.Answer.the-variants.{Done, Refused}
 use Rattle.answer.specs.Answers.{_▹_, refuse}
+use Rattle.answer.specs.Judges.{roomAnswer}
 use Rattle.answer.specs.Bits.{bitsAnswer}
 use Rattle.answer.specs.Choose.{choose}
 use Rattle.netlist.specs.Net.{Net}
 use Rattle.netlist.specs.Words.{words}
-use Rattle.instance.specs.Table.{keyBits, rowBits, whiteBits}
-use Rattle.instance.specs.Judging.{numbersAnswer, rowsAnswer, whiteAnswer}
-use Rattle.answer.specs.Judges.{lengthAnswer, roomAnswer}
+use Rattle.instance.specs.Judging.{numbersAnswer, wiringLengths, wiringRows}
 use Rattle.cells.specs.Cells.{oneHotNet, thresholdNet}
 use Rattle.wiring.specs.Exp.{chain}
 use Rattle.wiring.specs.Decipher.{rowsNet}
@@ -38,10 +37,7 @@ decipherNet inst m idx wh = choose (eqb inst 6) (kreyviumNet wh m) (rowsNet chai
 -- lists: indices, whitening or IV, result. 1 to 7
 unfoldable pub wiringAnswer : ℕ → ℕ → List ℕ → List ℕ → Answer
 wiringAnswer inst m idx wh =
-    numbersAnswer inst m
-    ▹ (lengthAnswer 1 (length idx) (m * rowBits inst) ▹ lengthAnswer 2 (length wh) (whiteBits inst m))
-    ▹ bitsAnswer 2 wh
-    ▹ (rowsAnswer 1 (keyBits inst) (rowBits inst) idx ▹ whiteAnswer 2 inst wh)
+    numbersAnswer inst m ▹ wiringLengths 1 inst m (length idx) (length wh) ▹ bitsAnswer 2 wh ▹ wiringRows 1 inst idx wh
 
 -- and 8
 unfoldable pub decipherAnswer : ℕ → ℕ → List ℕ → List ℕ → ℕ → Answer

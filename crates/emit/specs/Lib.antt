@@ -1,4 +1,3 @@
 pub mod Emit
-pub mod Rows
-pub mod Lent
-pub mod Levels
+pub mod InnerRows
+pub mod InnerLevels

@@ -8,7 +8,7 @@ ghost use Rattle.netlist.specs.Glue.{upFrom};
 ghost use Rattle.netlist.specs.Put.{putGates, Wrote};
 ghost use Rattle.cells.specs.Cells.{thresholdPart};
 ghost use Rattle.cells.specs.InnerLoop.{pos, down, tail, lowGates, sumGates, firstGates, firstWire, cells};
-ghost use Rattle.emit.specs.Levels.{levelGates, afterLevel, firstLevel, LevelFits, StepFits};
+ghost use Rattle.emit.specs.InnerLevels.{levelGates, afterLevel, firstLevel, LevelFits, StepFits};
 
 // Where a run of levels stands. Cell 0 is kept at `lows` more levels. The last AND of a level is a cell at
 // `highs` - 1 more; then it is the sum, and after that it joins the sum. The row before has its cells at wires

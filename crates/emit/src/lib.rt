@@ -6,15 +6,16 @@ mod put;
 mod rows;
 
 use answer::Answer;
+use netlist::counts::Counts;
 ghost use mathlib.Core.Path.{_≡_};
 ghost use Prim.Native.Nat.{_≤_};
 ghost use lib.ListN.{length};
 ghost use Rattle.answer.specs.declared.Answer.the-variants.{Done};
 ghost use Rattle.cells.specs.Cells.{oneHotNet, thresholdNet};
-ghost use Rattle.netlist.specs.Words.{words};
+ghost use Rattle.netlist.specs.Words.{netCounts, words};
 ghost use Rattle.netlist.specs.Emitted.{Emitted};
+ghost use Rattle.instance.specs.Wired.{Wired};
 ghost use Rattle.emit.specs.Emit.{oneHotAnswer, thresholdAnswer, decipherNet, wiringAnswer, decipherAnswer, sizedBy};
-ghost use Rattle.emit.specs.Lent.{Lent};
 
 // How many gates and words a netlist has, where the call that says so is done.
 pub struct Size {
@@ -28,11 +29,7 @@ pub fn emit_one_hot(n: u32, result: &mut [u32]) -> Answer
     ensures { λ r. ⌜ Emitted (oneHotAnswer n (length (now (result .entry)))) (oneHotNet n) (now (result .entry)) r (now (result .exit)) ⌝ }
 {
     if 64 < n {
-        return Answer::Refused {
-            number: answer::SHAPE,
-            list: 0,
-            place: 0,
-        };
+        return answer::refused(answer::SHAPE, 0, 0);
     }
     let mut wires = [0u32; 64];
     nets::one_hot(n, result, &mut wires)
@@ -43,11 +40,7 @@ pub fn emit_threshold(d: u32, n: u32, result: &mut [u32]) -> Answer
     ensures { λ r. ⌜ Emitted (thresholdAnswer d n (length (now (result .entry)))) (thresholdNet d n) (now (result .entry)) r (now (result .exit)) ⌝ }
 {
     if nets::no_threshold(d, n) {
-        return Answer::Refused {
-            number: answer::SHAPE,
-            list: 0,
-            place: 0,
-        };
+        return answer::refused(answer::SHAPE, 0, 0);
     }
     let mut wires = [0u32; 64];
     nets::threshold(d, n, result, &mut wires)
@@ -55,13 +48,28 @@ pub fn emit_threshold(d: u32, n: u32, result: &mut [u32]) -> Answer
 
 // How many gates the deciphering netlist of an accepted wiring has.
 fn decipher_gates(instance: u32, m: u32, indices: &[u32], whitening: &[u8]) -> usize
-    requires { ⌜ Lent instance m (now indices) (now whitening) ⌝ }
+    requires { ⌜ Wired instance m (now indices) (now whitening) ⌝ }
     ensures { λ r. ⌜ (r ≡ length (decipherNet instance m (now (indices .entry)) (now (whitening .entry)) .gates)) × (r ≤ 178432) ⌝ }
 {
     if instance == 6 {
         return 16130 + 17 * (m as usize);
     }
     rows::rows_gates(instance, m, whitening)
+}
+
+// What it has of each.
+fn decipher_counts(instance: u32, m: u32, indices: &[u32], whitening: &[u8]) -> Counts
+    requires { ⌜ Wired instance m (now indices) (now whitening) ⌝ }
+    ensures { λ r. ⌜ r ≡ netCounts (decipherNet instance m (now (indices .entry)) (now (whitening .entry))) ⌝ }
+{
+    let sizes = instance::sizes_of(instance);
+    let key = sizes.key;
+    let gates = decipher_gates(instance, m, indices, whitening);
+    Counts {
+        inputs: key as u32 + m,
+        gates: gates as u32,
+        outputs: m,
+    }
 }
 
 // What emit_decipher needs room for: how many gates and words the deciphering netlist has. All is judged that emit_decipher
@@ -77,11 +85,11 @@ pub fn decipher_size(instance: u32, m: u32, indices: &[u32], whitening: &[u8]) -
             words: 0,
         };
     };
-    let gates = decipher_gates(instance, m, indices, whitening);
+    let counts = decipher_counts(instance, m, indices, whitening);
     Size {
         answer: Answer::Done,
-        gates,
-        words: 3 + 4 * gates + m as usize,
+        gates: counts.gates as usize,
+        words: netlist::counts::word_count(counts),
     }
 }
 
@@ -93,7 +101,7 @@ fn put_decipher(
     whitening: &[u8],
     result: &mut [u32],
 ) -> Answer
-    requires { ⌜ Lent instance m (now indices) (now whitening) ⌝ }
+    requires { ⌜ Wired instance m (now indices) (now whitening) ⌝ }
     requires { ⌜ length (words (decipherNet instance m (now indices) (now whitening))) ≤ length (now result) ⌝ }
     ensures { λ r. ⌜ Emitted Done (decipherNet instance m (now (indices .entry)) (now (whitening .entry))) (now (result .entry)) r (now (result .exit)) ⌝ }
 {

@@ -3,14 +3,17 @@
 use crate::levels::count_cells;
 use crate::levels::put_cells;
 use crate::put::put_gate;
-use crate::put::put_header;
 use answer::Answer;
+use netlist::GATE_STRIDE;
+use netlist::HEADER_WORDS;
+use netlist::counts::Counts;
 ghost use mathlib.Core.Path.{_≡_};
 ghost use mathlib.Core.Bool.{false};
 ghost use Prim.Native.Nat.{_+_, _*_, _≤_, _<_};
 ghost use lib.ListN.{length};
 ghost use lib.Seq.{sets};
 ghost use Rattle.netlist.specs.Glue.{upFrom};
+ghost use Rattle.netlist.specs.Words.{headerWords, gatePlace, netCounts};
 ghost use Rattle.cells.specs.Cells.{oneHotNet, thresholdNet};
 ghost use Rattle.cells.specs.InnerLoop.{cells};
 ghost use Rattle.netlist.specs.Emitted.{Emitted};
@@ -36,12 +39,12 @@ fn put_wires(out: &mut [u32], at: usize, from: u32, n: u32)
 // The cells over inputs 0 .. n-1, behind the header.
 fn put_input_cells(out: &mut [u32], n: u32, lows: u32, highs: u32, wires: &mut [u32])
     requires { ⌜ (1 ≤ n) × (n ≤ 64) × (64 ≤ length (now wires)) ⌝ }
-    requires { ⌜ 3 + 4 * length (cells (upFrom 0 n) lows highs n) ≤ length (now out) ⌝ }
-    ensures { λ _. ⌜ now (out .exit) ≡ putGates (now (out .entry)) 3 (cells (upFrom 0 n) lows highs n) ⌝ }
+    requires { ⌜ gatePlace (length (cells (upFrom 0 n) lows highs n)) ≤ length (now out) ⌝ }
+    ensures { λ _. ⌜ now (out .exit) ≡ putGates (now (out .entry)) headerWords (cells (upFrom 0 n) lows highs n) ⌝ }
 {
     put_wires(wires, 0, 0, n);
     let end = n as usize;
-    put_cells(out, 3, n, lows, highs, &wires[..end]);
+    put_cells(out, HEADER_WORDS, n, lows, highs, &wires[..end]);
 }
 
 // How many gates the one-hot netlist has.
@@ -55,13 +58,26 @@ fn one_hot_count(n: u32) -> u32
     count_cells(n, n, n + 1)
 }
 
+// What the one-hot netlist has of each.
+fn one_hot_counts(n: u32) -> Counts
+    requires { ⌜ n ≤ 64 ⌝ }
+    ensures { λ r. ⌜ (r ≡ netCounts (oneHotNet n)) × (r .gates ≤ 10000) ⌝ }
+{
+    let gates = one_hot_count(n);
+    Counts {
+        inputs: n,
+        gates,
+        outputs: n + 1,
+    }
+}
+
 fn put_one_hot_gates(out: &mut [u32], n: u32, wires: &mut [u32])
     requires { ⌜ (n ≤ 64) × (64 ≤ length (now wires)) ⌝ }
-    requires { ⌜ 3 + 4 * length (oneHotNet n .gates) ≤ length (now out) ⌝ }
-    ensures { λ _. ⌜ now (out .exit) ≡ putGates (now (out .entry)) 3 (oneHotNet n .gates) ⌝ }
+    requires { ⌜ gatePlace (length (oneHotNet n .gates)) ≤ length (now out) ⌝ }
+    ensures { λ _. ⌜ now (out .exit) ≡ putGates (now (out .entry)) headerWords (oneHotNet n .gates) ⌝ }
 {
     if n == 0 {
-        put_gate(out, 3, netlist::gate::ONE_KIND, 0, 0, 0);
+        put_gate(out, HEADER_WORDS, netlist::gate::ONE_KIND, 0, 0, 0);
         return;
     }
     put_input_cells(out, n, n, n + 1, wires);
@@ -85,16 +101,15 @@ pub(crate) fn one_hot(n: u32, out: &mut [u32], wires: &mut [u32]) -> Answer
     requires { ⌜ (n ≤ 64) × (64 ≤ length (now wires)) ⌝ }
     ensures { λ r. ⌜ Emitted (oneHotAnswer n (length (now (out .entry)))) (oneHotNet n) (now (out .entry)) r (now (out .exit)) ⌝ }
 {
-    let g = one_hot_count(n);
-    let at = 3 + 4 * (g as usize);
-    let need = at + (n as usize + 1);
-    let r = answer::room(out.len(), need, 1);
+    let counts = one_hot_counts(n);
+    let r = answer::room(out.len(), netlist::counts::word_count(counts), 1);
     let Answer::Done = r else {
         return r;
     };
-    put_header(out, n, g, n + 1);
+    let g = counts.gates;
+    netlist::counts::put_header(out, counts);
     put_one_hot_gates(out, n, wires);
-    put_one_hot_outs(out, at, n, g);
+    put_one_hot_outs(out, HEADER_WORDS + GATE_STRIDE * (g as usize), n, g);
     Answer::Done
 }
 
@@ -122,13 +137,26 @@ fn threshold_count(d: u32, n: u32) -> u32
     count_cells(n, n - d, d)
 }
 
+// What threshold d of n has of each.
+fn threshold_counts(d: u32, n: u32) -> Counts
+    requires { ⌜ (n ≤ 64) × (1 ≤ d) × (d ≤ n + 1) ⌝ }
+    ensures { λ r. ⌜ (r ≡ netCounts (thresholdNet d n)) × (r .gates ≤ 10000) ⌝ }
+{
+    let gates = threshold_count(d, n);
+    Counts {
+        inputs: n,
+        gates,
+        outputs: 1,
+    }
+}
+
 fn put_threshold_gates(out: &mut [u32], d: u32, n: u32, wires: &mut [u32])
     requires { ⌜ (n ≤ 64) × (1 ≤ d) × (d ≤ n + 1) × (64 ≤ length (now wires)) ⌝ }
-    requires { ⌜ 3 + 4 * length (thresholdNet d n .gates) ≤ length (now out) ⌝ }
-    ensures { λ _. ⌜ now (out .exit) ≡ putGates (now (out .entry)) 3 (thresholdNet d n .gates) ⌝ }
+    requires { ⌜ gatePlace (length (thresholdNet d n .gates)) ≤ length (now out) ⌝ }
+    ensures { λ _. ⌜ now (out .exit) ≡ putGates (now (out .entry)) headerWords (thresholdNet d n .gates) ⌝ }
 {
     if n < d {
-        put_gate(out, 3, netlist::gate::ZERO_KIND, 0, 0, 0);
+        put_gate(out, HEADER_WORDS, netlist::gate::ZERO_KIND, 0, 0, 0);
         return;
     }
     put_input_cells(out, n, n - d, d, wires);
@@ -139,14 +167,14 @@ pub(crate) fn threshold(d: u32, n: u32, out: &mut [u32], wires: &mut [u32]) -> A
     requires { ⌜ (noThreshold d n ≡ false) × (64 ≤ length (now wires)) ⌝ }
     ensures { λ r. ⌜ Emitted (thresholdAnswer d n (length (now (out .entry)))) (thresholdNet d n) (now (out .entry)) r (now (out .exit)) ⌝ }
 {
-    let g = threshold_count(d, n);
-    let at = 3 + 4 * (g as usize);
-    let r = answer::room(out.len(), at + 1, 1);
+    let counts = threshold_counts(d, n);
+    let r = answer::room(out.len(), netlist::counts::word_count(counts), 1);
     let Answer::Done = r else {
         return r;
     };
-    put_header(out, n, g, 1);
+    let g = counts.gates;
+    netlist::counts::put_header(out, counts);
     put_threshold_gates(out, d, n, wires);
-    put_wires(out, at, n + g - 1, 1);
+    put_wires(out, HEADER_WORDS + GATE_STRIDE * (g as usize), n + g - 1, 1);
     Answer::Done
 }

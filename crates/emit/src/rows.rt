@@ -2,8 +2,10 @@
 // filter, and the XOR with its record bit. Room is the caller's to see to.
 use crate::levels::put_threshold;
 use crate::put::put_gate;
-use crate::put::put_header;
 use crate::put::put_words;
+use netlist::GATE_STRIDE;
+use netlist::HEADER_WORDS;
+use netlist::counts::Counts;
 use netlist::gate::AND_KIND;
 use netlist::gate::NOT_KIND;
 use netlist::gate::XOR_KIND;
@@ -27,7 +29,7 @@ ghost use Rattle.instance.specs.Table.{keyBits, rowBits};
 ghost use Rattle.filter.specs.Filter.{ones};
 ghost use Rattle.filter.specs.Instances.{degreesOf};
 ghost use Rattle.wiring.specs.Rows.{Rows};
-ghost use Rattle.emit.specs.Rows.{wireOf, flips, term, Wiring};
+ghost use Rattle.emit.specs.InnerRows.{wireOf, flips, term, Wiring};
 
 // A NOT of wire p, and whether it counts: where whitening w asks for one. One that does not count is stored all the
 // same, and the next gate goes over it: w is as good as random, and a branch on it would be guessed wrong.
@@ -182,19 +184,6 @@ fn put_filtered(out: &mut [u32], at: usize, instance: u32, rec: u32, next: u32, 
     next + ((k - 1) as u32)
 }
 
-// The whitening bits of a row or'ed together: none is above it. The compiler does many at a time.
-fn joined(ws: &[u8]) -> u8
-    ensures { λ r. ⌜ ((k : ℕ) → k < length (now (ws .entry)) → getD (now (ws .entry)) k 0 ≤ r) ⌝ }
-{
-    let mut all: u8 = 0;
-    let mut j: usize = 0;
-    while j < ws.len() {
-        all = all | ws[j];
-        j += 1;
-    }
-    all
-}
-
 // One bit: NOTs, filter, XOR with the record bit at wire rec; its wire. xs is room for the row's wires. Where nothing
 // is whitened, as in FLIP, these are the row itself.
 fn put_bit(
@@ -212,7 +201,7 @@ fn put_bit(
     requires { ⌜ at + 4 * (length (nots (now row) (now ws)) + costOf instance .gates) ≤ length (now out) ⌝ }
     ensures { λ r. ⌜ Wrote (now (out .entry)) at (bitPart chain instance rec next (now (row .entry)) (now (ws .entry))) (now (out .exit)) r ⌝ }
 {
-    if joined(ws) == 0 {
+    if answer::or_all(ws) == 0 {
         return put_filtered(out, at, instance, rec, next, row);
     }
     let free = put_vars(out, at, row, ws, next, xs);
@@ -302,9 +291,14 @@ fn put_net(
 {
     let g = rows_gates(instance, m, wh);
     let next = key + m;
-    put_header(out, next, g as u32, m);
-    put_bits(out, 3, instance, key, next, idx, wh, xs, wires);
-    put_words(out, 3 + 4 * g, wires);
+    let counts = Counts {
+        inputs: next,
+        gates: g as u32,
+        outputs: m,
+    };
+    netlist::counts::put_header(out, counts);
+    put_bits(out, HEADER_WORDS, instance, key, next, idx, wh, xs, wires);
+    put_words(out, HEADER_WORDS + GATE_STRIDE * g, wires);
 }
 
 // The same, where xs and wires are room for any instance and any record.

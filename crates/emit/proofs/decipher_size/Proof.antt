@@ -2,7 +2,7 @@ use mathlib.Core.Path.{_≡_, sym, _∙_}
 use denote.Ref.{now}
 use Rattle.answer.specs.declared.Answer.the-variants.{Done}
 use Rattle.emit.specs.Emit.{wiringAnswer}
-use Rattle.emit.proofs.Accepted.{wiring-lent, no-size, size-is}
+use Rattle.emit.proofs.Accepted.{wiring-wired, no-size, size-is}
 use borrow.Author.Needs.{needs}
 use Rattle.emit.proofs.decipher_size.Statement.{statement}
 use Rattle.emit.proofs.decipher_size.Tie as tie
@@ -24,20 +24,19 @@ enum-told-2 c = search needs
 returns : tie.Need-returns
 returns c = no-size _ (c .before .before .wiring .ensures) (c .enum-told2 .given .1)
 
-decipher-gates-requires : tie.Need-decipher-gates-requires
-decipher-gates-requires c κs = wiring-lent _ _ _ _ (accepted c)
+decipher-counts-requires : tie.Need-decipher-counts-requires
+decipher-counts-requires c κs = wiring-wired _ _ _ _ (accepted c)
 
-mul-t8 : tie.Need-mul-t8
-mul-t8 c = search needs
+cast-t8 : tie.Need-cast-t8
+cast-t8 c = search needs
 
-add-t9 : tie.Need-add-t9
-add-t9 c = search needs
-
-add-t11 : tie.Need-add-t11
-add-t11 c = search needs
+word-count-requires : tie.Need-word-count-requires
+word-count-requires c κs = search needs
 
 returns-2 : tie.Need-returns-2
-returns-2 c = size-is _ _ _ _ _ (accepted (c .before)) (c .decipher-gates .ensures .0)
+returns-2 c =
+    let k = c .before .before in
+    size-is _ _ _ (accepted (k .before)) (k .decipher-counts .ensures) (c .word-count .ensures)
 
 pub decipher-size-spec : {M : Type 1} → statement M
 decipher-size-spec =
@@ -47,8 +46,7 @@ decipher-size-spec =
     enum-told
     enum-told-2
     returns
-    decipher-gates-requires
-    mul-t8
-    add-t9
-    add-t11
+    decipher-counts-requires
+    cast-t8
+    word-count-requires
     returns-2)

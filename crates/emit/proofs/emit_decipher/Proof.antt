@@ -7,7 +7,7 @@ use Rattle.netlist.specs.Words.{words}
 use Rattle.answer.specs.Judges.{roomAnswer}
 use Rattle.answer.proofs.Judges.{room-done}
 use Rattle.emit.specs.Emit.{wiringAnswer, decipherNet}
-use Rattle.emit.proofs.Accepted.{wiring-lent, refused-early, judged, size-answer, size-counts}
+use Rattle.emit.proofs.Accepted.{wiring-wired, refused-early, judged, size-answer, size-counts}
 use borrow.Author.Needs.{needs}
 use Rattle.emit.proofs.emit_decipher.Statement.{statement}
 use Rattle.emit.proofs.emit_decipher.Tie as tie
@@ -64,7 +64,7 @@ returns-2 c =
 put-decipher-requires : tie.Need-put-decipher-requires
 put-decipher-requires c κs =
     let r = c .before .before .before in
-    (wiring-lent _ _ _ _ (accepted (r .before)), room-done 3 _ _ (sym (due r) ∙ c .before .enum-told3 .given .1))
+    (wiring-wired _ _ _ _ (accepted (r .before)), room-done 3 _ _ (sym (due r) ∙ c .before .enum-told3 .given .1))
 
 same-length : tie.Need-same-length
 same-length c = search needs

@@ -8,9 +8,15 @@ use Rattle.emit.proofs.Shapes.{no-shape}
 use Rattle.emit.proofs.emit_one_hot.Statement.{statement}
 use Rattle.emit.proofs.emit_one_hot.Tie as tie
 
+refused-requires : tie.Need-refused-requires
+refused-requires c κs = search needs
+
 returns : tie.Need-returns
 unfolding oneHotAnswer
-returns c = let a = c .before .before .args in no-shape (ltb 64 (a .n)) (oneHotNet (a .n)) (now (a .result)) (lt-ltb 64 (a .n) (c .if1 .taken))
+returns c =
+    let t = c .before in
+    let a = t .before .before .args in
+    no-shape (ltb 64 (a .n)) (oneHotNet (a .n)) (now (a .result)) _ (lt-ltb 64 (a .n) (t .if1 .taken)) (c .refused .ensures)
 
 slice-aggregate-one-hot : tie.Need-slice-aggregate-one-hot
 slice-aggregate-one-hot c = search needs
@@ -26,4 +32,4 @@ returns-2 c = search needs
 
 pub emit-one-hot-spec : {M : Type 1} → statement M
 emit-one-hot-spec =
-    tie.close (tie.spec returns slice-aggregate-one-hot one-hot-requires same-length returns-2)
+    tie.close (tie.spec refused-requires returns slice-aggregate-one-hot one-hot-requires same-length returns-2)

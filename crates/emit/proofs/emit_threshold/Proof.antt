@@ -11,11 +11,15 @@ use Rattle.emit.proofs.emit_threshold.Tie as tie
 no-threshold-requires : tie.Need-no-threshold-requires
 no-threshold-requires c κs = search needs
 
+refused-requires : tie.Need-refused-requires
+refused-requires c κs = search needs
+
 returns : tie.Need-returns
 unfolding thresholdAnswer
 returns c =
-    let a = c .before .before .before .args in
-    no-shape (noThreshold (a .d) (a .n)) (thresholdNet (a .d) (a .n)) (now (a .result)) (sym (c .before .no-threshold .ensures) ∙ c .if1 .taken)
+    let t = c .before in
+    let a = t .before .before .before .args in
+    no-shape (noThreshold (a .d) (a .n)) (thresholdNet (a .d) (a .n)) (now (a .result)) _ (sym (t .before .no-threshold .ensures) ∙ t .if1 .taken) (c .refused .ensures)
 
 slice-aggregate-threshold : tie.Need-slice-aggregate-threshold
 slice-aggregate-threshold c = search needs
@@ -34,6 +38,7 @@ emit-threshold-spec =
     tie.close
     (tie.spec
     no-threshold-requires
+    refused-requires
     returns
     slice-aggregate-threshold
     threshold-requires

@@ -17,8 +17,8 @@ returns : tie.Need-returns
 unfolding wiringAnswer
 returns c = stop _ (c .before .before .numbers .ensures) (c .enum-told2 .given .1)
 
-lengths-requires : tie.Need-lengths-requires
-lengths-requires c κs = search needs
+wiring-lengths-requires : tie.Need-wiring-lengths-requires
+wiring-lengths-requires c κs = search needs
 
 enum-told-3 : tie.Need-enum-told-3
 enum-told-3 c = search needs
@@ -31,7 +31,7 @@ unfolding wiringAnswer
 returns-2 c =
     let l = c .before .before in
     let n = l .before .before .before in
-    go (n .numbers .ensures) (l .before .enum-told .given .1) (stop _ (l .lengths .ensures) (c .enum-told4 .given .1))
+    go (n .numbers .ensures) (l .before .enum-told .given .1) (stop _ (l .wiring-lengths .ensures) (c .enum-told4 .given .1))
 
 bits-requires : tie.Need-bits-requires
 bits-requires c κs = search needs
@@ -49,10 +49,10 @@ returns-3 c =
     let l = b .before .before .before in
     let n = l .before .before .before in
     go (n .numbers .ensures) (l .before .enum-told .given .1)
-    (go (l .lengths .ensures) (b .before .enum-told3 .given .1) (stop _ (b .bits .ensures) (c .enum-told6 .given .1)))
+    (go (l .wiring-lengths .ensures) (b .before .enum-told3 .given .1) (stop _ (b .bits .ensures) (c .enum-told6 .given .1)))
 
-rows-requires : tie.Need-rows-requires
-rows-requires c κs = search needs
+wiring-rows-requires : tie.Need-wiring-rows-requires
+wiring-rows-requires c κs = search needs
 
 returns-4 : tie.Need-returns-4
 unfolding wiringAnswer
@@ -61,7 +61,7 @@ returns-4 c =
     let l = b .before .before .before in
     let n = l .before .before .before in
     go (n .numbers .ensures) (l .before .enum-told .given .1)
-    (go (l .lengths .ensures) (b .before .enum-told3 .given .1) (go (b .bits .ensures) (c .before .enum-told5 .given .1) (c .rows .ensures)))
+    (go (l .wiring-lengths .ensures) (b .before .enum-told3 .given .1) (go (b .bits .ensures) (c .before .enum-told5 .given .1) (c .wiring-rows .ensures)))
 
 pub wiring-spec : {M : Type 1} → statement M
 wiring-spec =
@@ -71,7 +71,7 @@ wiring-spec =
     enum-told
     enum-told-2
     returns
-    lengths-requires
+    wiring-lengths-requires
     enum-told-3
     enum-told-4
     returns-2
@@ -79,5 +79,5 @@ wiring-spec =
     enum-told-5
     enum-told-6
     returns-3
-    rows-requires
+    wiring-rows-requires
     returns-4)

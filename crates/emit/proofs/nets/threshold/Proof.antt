@@ -1,39 +1,55 @@
 use borrow.Author.Needs.{needs}
-use Prim.Native.Nat.{_+_, _*_, _≤_}
-use mathlib.Core.Path.{sym, ap, _∙_}
+use Prim.Native.Nat.{_≤_}
+use mathlib.Core.Path.{_≡_, ap, _∙_}
 use native.Mathlib.Omega.{arith}
 use denote.Ref.{now}
 use lib.ListN.{length}
 use lib.Seq.{sets}
-use Rattle.netlist.specs.Words.{words}
+use Rattle.netlist.specs.declared.counts.Counts.{Counts}
+use Rattle.netlist.specs.Words.{gatePlace, wordCount, netCounts, words}
 use Rattle.netlist.proofs.Puts.{words-length, net-put}
 use Rattle.cells.specs.Cells.{thresholdNet}
+use Rattle.cells.proofs.Facts.{threshold-outputs}
 use Rattle.emit.specs.Emit.{noThreshold, thresholdAnswer}
-use Rattle.emit.proofs.Shapes.{threshold-inputs, threshold-count, threshold-outs, threshold-some, shape-good, no-room, in-room, all-written}
+use Rattle.emit.proofs.Shapes.{threshold-outs, threshold-some, shape-good, no-room, in-room, all-written}
 use Rattle.emit.proofs.nets.threshold.Statement.{statement}
 use Rattle.emit.proofs.nets.threshold.Tie as tie
 
+-- the start, the counts, where room is judged, and where the header and the gates are stored
+abbrev start : tie.After-threshold-counts → tie.Start
+start c = c .before .before .before
+
+abbrev counted : tie.After-room → tie.After-threshold-counts
+counted c = c .before .before
+
+abbrev judged : tie.After-enum-told → tie.After-room
+judged c = c .before .before
+
+abbrev headed : tie.After-put-threshold-gates → tie.After-put-header
+headed c = c .before .before .before .before .before
+
+abbrev stored : tie.After-put-wires-arg → tie.After-put-threshold-gates
+stored c = c .before .before .before .before .before
+
+abbrev known : tie.After-put-wires-arg → tie.After-enum-told
+known c = headed (stored c) .before .before
+
+need-is : (c : tie.After-room) → let a = start (counted c) .args in c .before .word-count .result ≡ wordCount (netCounts (thresholdNet (a .d) (a .n)))
+need-is c = c .before .word-count .ensures ∙ ap wordCount (counted c .threshold-counts .ensures .0)
+
 -- there is room for the words
-room : (c : tie.After-enum-told) → let a = c .before .before .before .before .before .before .args in length (words (thresholdNet (a .d) (a .n))) ≤ length (now (a .out))
+room : (c : tie.After-enum-told) → let a = start (counted (judged c)) .args in length (words (thresholdNet (a .d) (a .n))) ≤ length (now (a .out))
 room c =
-    let s = c .before .before .before .before .before .before in
+    let r = judged c in
+    let s = start (counted r) in
     let a = s .args in
-    in-room (noThreshold (a .d) (a .n)) (thresholdNet (a .d) (a .n)) (now (a .out)) (s .pre .0) _ _ (omega (arith, threshold-count (a .d) (a .n))) (c .before .before .room .ensures) (c .enum-told .given .1)
+    in-room (noThreshold (a .d) (a .n)) (thresholdNet (a .d) (a .n)) (now (a .out)) (s .pre .0) _ _ (need-is r) (r .room .ensures) (c .enum-told .given .1)
 
-threshold-count-requires : tie.Need-threshold-count-requires
-threshold-count-requires c κs = let s = c .before .before in shape-good (s .args .d) (s .args .n) (s .pre .0)
+threshold-counts-requires : tie.Need-threshold-counts-requires
+threshold-counts-requires c κs = let s = c .before .before in shape-good (s .args .d) (s .args .n) (s .pre .0)
 
-cast-at : tie.Need-cast-at
-cast-at c = search needs
-
-mul-at : tie.Need-mul-at
-mul-at c = search needs
-
-add-at : tie.Need-add-at
-add-at c = search needs
-
-add-room : tie.Need-add-room
-add-room c = search needs
+word-count-requires : tie.Need-word-count-requires
+word-count-requires c κs = search needs
 
 room-requires : tie.Need-room-requires
 room-requires c κs = search needs
@@ -47,37 +63,55 @@ enum-told-2 c = search needs
 returns : tie.Need-returns
 unfolding thresholdAnswer
 returns c =
-    let s = c .before .before .before .before .before .before in
+    let r = c .before .before in
+    let s = start (counted r) in
     let a = s .args in
-    no-room (noThreshold (a .d) (a .n)) (thresholdNet (a .d) (a .n)) (now (a .out)) (s .pre .0) _ _ (omega (arith, threshold-count (a .d) (a .n))) (c .before .before .room .ensures) (c .enum-told2 .given .1)
+    no-room (noThreshold (a .d) (a .n)) (thresholdNet (a .d) (a .n)) (now (a .out)) (s .pre .0) _ _ (need-is r) (r .room .ensures) (c .enum-told2 .given .1)
 
 put-header-requires : tie.Need-put-header-requires
-put-header-requires c κs = let a = c .before .before .before .before .before .before .before .args in omega (arith, room (c .before), words-length (thresholdNet (a .d) (a .n)))
+put-header-requires c κs = search needs
 
 put-threshold-gates-requires : tie.Need-put-threshold-gates-requires
 put-threshold-gates-requires c κs =
-    let s = c .before .before .before .before .before .before .before .before .before .before .before .before in
+    let head = c .before .before .before .before in
+    let t = head .before .before in
+    let s = start (counted (judged t)) in
     let a = s .args in
     let g = shape-good (a .d) (a .n) (s .pre .0) in
-    ((omega arith, omega arith, omega arith, omega arith), omega (arith, room (c .before .before .before .before .before .before), words-length (thresholdNet (a .d) (a .n)), c .before .before .before .before .put-header .kept .0))
+    ((omega arith, omega arith, omega arith, omega arith), omega (arith, room t, words-length (thresholdNet (a .d) (a .n)), head .put-header .kept .0))
+
+cast-put-wires : tie.Need-cast-put-wires
+cast-put-wires c = search needs
+
+mul-put-wires : tie.Need-mul-put-wires
+mul-put-wires c = search needs
 
 add-put-wires : tie.Need-add-put-wires
-add-put-wires c = let s = c .before .before .before .before .before .before .before .before .before .before .before .before .before .before .before .before .before .before in omega (arith, shape-good (s .args .d) (s .args .n) (s .pre .0), c .before .before .before .before .before .before .before .before .before .before .before .before .before .before .before .threshold-count .ensures .1)
+add-put-wires c = search needs
+
+add-put-wires-2 : tie.Need-add-put-wires-2
+add-put-wires-2 c =
+    let k = counted (judged (known c)) in
+    let s = start k in
+    omega (arith, shape-good (s .args .d) (s .args .n) (s .pre .0), k .threshold-counts .ensures .1)
 
 sub-put-wires : tie.Need-sub-put-wires
 sub-put-wires c =
-    let s = c .before .before .before .before .before .before .before .before .before .before .before .before .before .before .before .before .before .before in
+    let k = counted (judged (known c)) in
+    let s = start k in
     let a = s .args in
     let g = shape-good (a .d) (a .n) (s .pre .0) in
-    threshold-some (a .d) (a .n) _ (g .1) (g .2) (c .before .before .before .before .before .before .before .before .before .before .before .before .before .before .before .threshold-count .ensures .0)
+    threshold-some (a .d) (a .n) _ (g .1) (g .2) (ap Counts.gates (k .threshold-counts .ensures .0))
 
 put-wires-requires : tie.Need-put-wires-requires
 put-wires-requires c κs =
-    let s = c .before .before .before .before .before .before .before .before .before .before .before .before .before .before .before .before .before .before in
+    let t = known c in
+    let k = counted (judged t) in
+    let s = start k in
     let a = s .args in
     let g = shape-good (a .d) (a .n) (s .pre .0) in
-    let k = c .before .before .before .before .before .before .before .before .before .before .before .before .before .before .before .threshold-count in
-    (omega (arith, room (c .before .before .before .before .before .before .before .before .before .before .before .before), words-length (thresholdNet (a .d) (a .n)), threshold-count (a .d) (a .n), k .ensures .0, c .before .before .before .before .before .put-threshold-gates .kept .0, c .before .before .before .before .before .before .before .before .before .before .put-header .kept .0), omega (arith, g, k .ensures .1))
+    let e = ap Counts.gates (k .threshold-counts .ensures .0) in
+    (omega (arith, room t, words-length (thresholdNet (a .d) (a .n)), threshold-outputs (a .d) (a .n), e, stored c .put-threshold-gates .kept .0, headed (stored c) .put-header .kept .0), omega (arith, g, k .threshold-counts .ensures .1))
 
 same-length : tie.Need-same-length
 same-length c = search needs
@@ -88,31 +122,34 @@ same-length-2 c = search needs
 returns-2 : tie.Need-returns-2
 unfolding thresholdAnswer
 returns-2 c =
-    let t = c .before .before .before .before .before .before .before .before .before .before .before .before .before .before .before in
-    let s = t .before .before .before .before .before .before in
+    let outs = c .before .before in
+    let gates = stored (outs .before) in
+    let t = known (outs .before) in
+    let k = counted (judged t) in
+    let s = start k in
     let a = s .args in
     let g = shape-good (a .d) (a .n) (s .pre .0) in
-    let k = t .before .before .before .threshold-count in
-    all-written (noThreshold (a .d) (a .n)) (thresholdNet (a .d) (a .n)) (now (a .out)) (s .pre .0) _ _ (omega (arith, threshold-count (a .d) (a .n))) (t .before .before .room .ensures) _ (t .enum-told .given .1)
-    (net-put (thresholdNet (a .d) (a .n)) (now (a .out)) _ _ _ (a .n) (k .result) 1 (3 + 4 * k .result) (sym (threshold-inputs (a .d) (a .n))) (k .ensures .0) (sym (threshold-count (a .d) (a .n))) (omega (arith, k .ensures .0)) (room t)
-    (c .before .before .before .before .before .before .before .before .before .before .before .before .before .put-header .ensures) (c .before .before .before .before .before .before .before .before .put-threshold-gates .ensures) (c .before .before .put-wires .ensures ∙ ap (sets _ (3 + 4 * k .result)) (threshold-outs (a .d) (a .n) (k .result) (g .1) (g .2) (k .ensures .0))))
+    let e = k .threshold-counts .ensures .0 in
+    all-written (noThreshold (a .d) (a .n)) (thresholdNet (a .d) (a .n)) (now (a .out)) (s .pre .0) _ _ (need-is (judged t)) (judged t .room .ensures) _ (t .enum-told .given .1)
+    (net-put (thresholdNet (a .d) (a .n)) (now (a .out)) _ _ _ _ _ e (ap (λ (c : Counts). gatePlace (c .gates)) e) (room t) (headed gates .put-header .ensures) (gates .put-threshold-gates .ensures)
+    (outs .put-wires .ensures ∙ ap (sets _ _) (threshold-outs (a .d) (a .n) _ (g .1) (g .2) (ap Counts.gates e))))
 
 pub threshold-spec : {M : Type 1} → statement M
 threshold-spec =
     tie.close
     (tie.spec
-    threshold-count-requires
-    cast-at
-    mul-at
-    add-at
-    add-room
+    threshold-counts-requires
+    word-count-requires
     room-requires
     enum-told
     enum-told-2
     returns
     put-header-requires
     put-threshold-gates-requires
+    cast-put-wires
+    mul-put-wires
     add-put-wires
+    add-put-wires-2
     sub-put-wires
     put-wires-requires
     same-length

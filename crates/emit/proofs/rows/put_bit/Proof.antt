@@ -6,14 +6,14 @@ use native.Mathlib.Omega.{arith}
 use lib.ListN.{getD}
 use Rattle.emit.proofs.RowsBit.{bit-wrote, bit-bare}
 use Rattle.wiring.proofs.Whitening.{vars-length}
-use Rattle.instance.proofs.Above.{above-zero}
+use Rattle.answer.proofs.Judges.{or-above}
 use Rattle.emit.proofs.RowsVariables.{nots-few, vars-at, bare}
 use Rattle.emit.proofs.RowsTable.{large}
 use Rattle.emit.proofs.rows.put_bit.Statement.{statement}
 use Rattle.emit.proofs.rows.put_bit.Tie as tie
 
-joined-requires : tie.Need-joined-requires
-joined-requires c κs = search needs
+or-all-requires : tie.Need-or-all-requires
+or-all-requires c κs = search needs
 
 put-filtered-requires : tie.Need-put-filtered-requires
 put-filtered-requires c κs = search needs
@@ -26,8 +26,9 @@ returns c =
     let f = c .before .before in
     let t = f .before .before in
     let s = t .before .before .before .before .before .before in
-    let z = above-zero (s .args .ws .now) _ _ (t .before .joined .ensures) (t .if1 .taken) in
-    bit-bare _ _ _ _ _ (s .pre .0 .0) (s .pre .0 .1) (vars-length _ _ _ ∙ s .pre .0 .2) _ _ _ _ (bare _ _ _ z) (f .put-filtered .ensures)
+    let ws = s .args .ws .now in
+    bit-bare _ _ _ _ _ (s .pre .0 .0) (s .pre .0 .1) (vars-length _ _ _ ∙ s .pre .0 .2) _ _ _ _
+    (bare _ _ _ (λ k h. omega (arith, or-above ws _ k h, t .before .or-all .ensures, t .if1 .taken))) (f .put-filtered .ensures)
 
 put-vars-requires : tie.Need-put-vars-requires
 put-vars-requires c κs =
@@ -76,7 +77,7 @@ pub put-bit-spec : {M : Type 1} → statement M
 put-bit-spec =
     tie.close
     (tie.spec
-    joined-requires
+    or-all-requires
     put-filtered-requires
     same-length
     returns

@@ -16,8 +16,8 @@ add-next c =
     let p = c .before .before .before .before .before .before .pre .0 in
     omega (arith, p .1, large _ (p .0 .low) (p .0 .high) .key-most, p .0 .few)
 
-cast-put-header : tie.Need-cast-put-header
-cast-put-header c = search needs
+cast-t12 : tie.Need-cast-t12
+cast-t12 c = search needs
 
 put-header-requires : tie.Need-put-header-requires
 put-header-requires c κs = search needs
@@ -70,7 +70,7 @@ put-net-spec =
     (tie.spec
     rows-gates-requires
     add-next
-    cast-put-header
+    cast-t12
     put-header-requires
     put-bits-requires
     mul-put-words
