@@ -1,6 +1,10 @@
 //! Netlists to test and time with: sound ones of any shape, and damaged ones.
 
-use crate::netlist::{AND, ARITY, HEADER, MAX_GATES, MAX_INPUTS, MAX_OUTPUTS, MUX, NOT, ONE, ZERO};
+use crate::faults;
+use crate::netlist::{
+    gate_place, words_for, Counts, Gate, AND, ARITY, GATES_PLACE, GATE_WORDS, HEADER_WORDS,
+    INPUTS_PLACE, MAX_GATES, MAX_INPUTS, MAX_OUTPUTS, MUX, NOT, ONE, OUTPUTS_PLACE, ZERO,
+};
 use crate::random::Random;
 
 /// What a sound netlist shall look like.
@@ -26,6 +30,15 @@ pub const LINEAR: [u32; 6] = [2, 2, 5, 10, 0, 0];
 
 pub const ANYWHERE: usize = usize::MAX;
 
+/// As large as a netlist can be.
+pub const LARGEST: Shape = Shape {
+    inputs: MAX_INPUTS,
+    gates: MAX_GATES,
+    outputs: MAX_OUTPUTS,
+    weights: MIXED,
+    reach: ANYWHERE,
+};
+
 /// A sound netlist of that shape. Without a wire to name there are no
 /// outputs, and the first gate of a netlist without inputs is a constant.
 pub fn sound(random: &mut Random, shape: &Shape) -> Vec<u32> {
@@ -41,8 +54,13 @@ pub fn sound(random: &mut Random, shape: &Shape) -> Vec<u32> {
     } else {
         shape.outputs
     };
-    let mut words = Vec::with_capacity(HEADER + 4 * gates + outputs);
-    words.extend([inputs as u32, gates as u32, outputs as u32]);
+    let mut words = Vec::with_capacity(words_for(gates, outputs));
+    let counts = Counts {
+        inputs,
+        gates,
+        outputs,
+    };
+    words.extend(counts.header());
     for wire in inputs..inputs + gates {
         let kind = if wire == 0 {
             random.pick(&[ZERO, ONE])
@@ -126,24 +144,24 @@ pub const FAULTS: [Fault; 14] = [
 impl Fault {
     /// The fault for which rule 9 names `place` in `words`.
     pub fn at(words: &[u32], place: usize) -> Fault {
-        if words.len() < HEADER {
+        if words.len() < HEADER_WORDS {
             return Fault::Few;
         }
-        let gate_words = 4 * words[1] as usize;
+        let counts = Counts::of(words);
         if place == words.len() {
-            return if words.len() < HEADER + gate_words + words[2] as usize {
+            return if words.len() < counts.words() {
                 Fault::Short
             } else {
                 Fault::Long
             };
         }
         match place {
-            0 => Fault::Inputs,
-            1 => Fault::Gates,
-            2 => Fault::Outputs,
-            _ if place >= HEADER + gate_words => Fault::Output,
+            INPUTS_PLACE => Fault::Inputs,
+            GATES_PLACE => Fault::Gates,
+            OUTPUTS_PLACE => Fault::Outputs,
+            _ if place >= gate_place(counts.gates) => Fault::Output,
             _ => {
-                let operand = (place - HEADER) % 4;
+                let operand = (place - HEADER_WORDS) % GATE_WORDS;
                 match words[place - operand] as usize {
                     _ if operand == 0 => Fault::Kind,
                     kind if operand <= ARITY[kind] => Fault::Used(operand),
@@ -169,26 +187,27 @@ fn at_least(random: &mut Random, least: u32) -> u32 {
 /// Puts one fault into a sound netlist and says the place that rule 9 then
 /// names; `None` where the netlist has no word that could carry the fault.
 pub fn inflict(random: &mut Random, words: &mut Vec<u32>, fault: Fault) -> Option<usize> {
-    let (inputs, gates, outputs) = (words[0], words[1] as usize, words[2] as usize);
+    let counts = Counts::of(words);
+    let Counts { inputs, gates, .. } = counts;
     match fault {
         Fault::Few => {
-            words.truncate(random.below(HEADER));
+            words.truncate(random.below(HEADER_WORDS));
             Some(words.len())
         }
         Fault::Inputs => {
-            words[0] = at_least(random, MAX_INPUTS as u32 + 1);
-            Some(0)
+            words[INPUTS_PLACE] = at_least(random, MAX_INPUTS as u32 + 1);
+            Some(INPUTS_PLACE)
         }
         Fault::Gates => {
-            words[1] = at_least(random, MAX_GATES as u32 + 1);
-            Some(1)
+            words[GATES_PLACE] = at_least(random, MAX_GATES as u32 + 1);
+            Some(GATES_PLACE)
         }
         Fault::Outputs => {
-            words[2] = at_least(random, MAX_OUTPUTS as u32 + 1);
-            Some(2)
+            words[OUTPUTS_PLACE] = at_least(random, MAX_OUTPUTS as u32 + 1);
+            Some(OUTPUTS_PLACE)
         }
         Fault::Short => {
-            let spare = words.len() - HEADER;
+            let spare = words.len() - HEADER_WORDS;
             if spare == 0 {
                 return None;
             }
@@ -212,7 +231,7 @@ pub fn inflict(random: &mut Random, words: &mut Vec<u32>, fault: Fault) -> Optio
             Some(words.len())
         }
         Fault::Kind => {
-            let place = HEADER + 4 * pick_gate(random, gates, |_| true)?;
+            let place = gate_place(pick_gate(random, gates, |_| true)?);
             words[place] = if random.chance(30) {
                 // The right kind in its low bits.
                 words[place] | 1 << random.between(3, 31)
@@ -223,26 +242,26 @@ pub fn inflict(random: &mut Random, words: &mut Vec<u32>, fault: Fault) -> Optio
         }
         Fault::Used(operand) => {
             let g = pick_gate(random, gates, |g| {
-                ARITY[words[HEADER + 4 * g] as usize] >= operand
+                ARITY[words[gate_place(g)] as usize] >= operand
             })?;
-            let place = HEADER + 4 * g + operand;
-            words[place] = at_least(random, inputs + g as u32);
+            let place = gate_place(g) + operand;
+            words[place] = at_least(random, (inputs + g) as u32);
             Some(place)
         }
         Fault::Unused(operand) => {
             let g = pick_gate(random, gates, |g| {
-                ARITY[words[HEADER + 4 * g] as usize] < operand
+                ARITY[words[gate_place(g)] as usize] < operand
             })?;
-            let place = HEADER + 4 * g + operand;
+            let place = gate_place(g) + operand;
             words[place] = at_least(random, 1);
             Some(place)
         }
         Fault::Output => {
-            if outputs == 0 {
+            if counts.outputs == 0 {
                 return None;
             }
-            let place = HEADER + 4 * gates + random.below(outputs);
-            words[place] = at_least(random, inputs + gates as u32);
+            let place = gate_place(gates) + random.below(counts.outputs);
+            words[place] = at_least(random, counts.wires() as u32);
             Some(place)
         }
     }
@@ -251,17 +270,13 @@ pub fn inflict(random: &mut Random, words: &mut Vec<u32>, fault: Fault) -> Optio
 /// Puts up to `count` different faults into a sound netlist and says the place
 /// that rule 9 then names; `None` where the netlist could carry none of them.
 pub fn inflict_several(random: &mut Random, words: &mut Vec<u32>, count: usize) -> Option<usize> {
-    let mut chosen: Vec<Fault> = (0..count).map(|_| random.pick(&FAULTS)).collect();
-    if chosen.contains(&Fault::Short) {
+    let mut several = faults::several(count, || random.pick(&FAULTS));
+    if several.contains(&Fault::Short) {
         // One might undo the other.
-        chosen.retain(|&fault| fault != Fault::Long);
+        several.retain(|&fault| fault != Fault::Long);
     }
-    // The faults that are judged first go in last: what is judged later needs
-    // the counts, the length and the kinds sound.
-    chosen.sort();
-    chosen.dedup();
     let mut expected = None;
-    for fault in chosen.into_iter().rev() {
+    for fault in several {
         if let Some(place) = inflict(random, words, fault) {
             expected = match expected {
                 Some(earlier) if fault >= Fault::Kind && earlier < place => Some(earlier),
@@ -289,7 +304,7 @@ pub fn wreck(random: &mut Random, words: &mut Vec<u32>) {
         return;
     }
     let place = match random.below(10) {
-        0 => random.below(words.len().min(HEADER)),
+        0 => random.below(words.len().min(HEADER_WORDS)),
         1 => words.len() - 1,
         _ => random.below(words.len()),
     };
@@ -330,43 +345,52 @@ pub fn soup(random: &mut Random) -> Vec<u32> {
     let mut words: Vec<u32> = (0..length).map(|_| random.below(bound) as u32).collect();
     if length >= 7 && random.chance(70) {
         // Counts that fit the length.
-        let gates = random.between(0, (length - HEADER) / 4);
-        words[1] = gates as u32;
-        words[2] = (length - HEADER - 4 * gates) as u32;
+        let gates = random.between(0, (length - HEADER_WORDS) / GATE_WORDS);
+        words[GATES_PLACE] = gates as u32;
+        words[OUTPUTS_PLACE] = (length - gate_place(gates)) as u32;
     }
+    words
+}
+
+/// Gates in a row, each made from the number of its wire. One output, the last
+/// wire.
+fn row(inputs: usize, gates: usize, gate: impl Fn(u32) -> Gate) -> Vec<u32> {
+    assert!(inputs > 0, "the first gate needs a wire");
+    let counts = Counts {
+        inputs,
+        gates,
+        outputs: 1,
+    };
+    let mut words = counts.header().to_vec();
+    for wire in inputs..counts.wires() {
+        words.extend(gate(wire as u32));
+    }
+    words.push(counts.wires() as u32 - 1);
     words
 }
 
 /// A chain in which every gate is one deeper than the one before: AND and MUX
-/// by turns, both of the last wire. One output, the last wire.
+/// by turns, both of the last wire.
 pub fn chain(inputs: usize, gates: usize) -> Vec<u32> {
-    assert!(inputs > 0, "the first gate needs a wire");
-    let mut words = vec![inputs as u32, gates as u32, 1];
-    for wire in inputs as u32..(inputs + gates) as u32 {
-        words.extend(if wire % 2 == 0 {
-            [AND, wire - 1, wire - 1, 0]
-        } else {
-            [MUX, 0, wire - 1, wire - 1]
-        });
-    }
-    words.push((inputs + gates - 1) as u32);
-    words
+    row(inputs, gates, |wire| match wire % 2 {
+        0 => [AND, wire - 1, wire - 1, 0],
+        _ => [MUX, 0, wire - 1, wire - 1],
+    })
 }
 
 /// As many NOT gates as asked, in a row after the last input.
 pub fn nots(inputs: usize, gates: usize) -> Vec<u32> {
-    assert!(inputs > 0, "the first gate needs a wire");
-    let mut words = vec![inputs as u32, gates as u32, 1];
-    for wire in inputs as u32..(inputs + gates) as u32 {
-        words.extend([NOT, wire - 1, 0, 0]);
-    }
-    words.push((inputs + gates - 1) as u32);
-    words
+    row(inputs, gates, |wire| [NOT, wire - 1, 0, 0])
 }
 
 /// No gates; every input is an output.
 pub fn pass_through(wires: usize) -> Vec<u32> {
-    let mut words = vec![wires as u32, 0, wires as u32];
+    let counts = Counts {
+        inputs: wires,
+        gates: 0,
+        outputs: wires,
+    };
+    let mut words = counts.header().to_vec();
     words.extend(0..wires as u32);
     words
 }

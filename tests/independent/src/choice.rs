@@ -3,12 +3,12 @@
 #![forbid(unsafe_code)]
 
 use crate::cipher::{Cipher, Instance};
-use crate::netlist::Answer;
+use crate::netlist::{refusal, Answer};
 use std::array;
 
 impl Answer {
     pub const fn no_draw(place: usize) -> Self {
-        Answer::new(14, 1, place)
+        refusal(14, 1, place)
     }
 }
 

@@ -7,8 +7,9 @@
 #![forbid(unsafe_code)]
 
 use crate::filter;
-use crate::kreyvium;
-use crate::netlist::Answer;
+use crate::key::{key_bit, key_length, key_word};
+use crate::kreyvium::{self, first_bits, pack};
+use crate::netlist::{refusal, Answer};
 
 /// The most bits a record can have.
 pub const MAX_BITS: usize = 64;
@@ -93,20 +94,20 @@ impl Instance {
 }
 
 impl Answer {
-    pub const NO_INSTANCE: Answer = Answer::new(1, 0, 0);
+    pub const NO_INSTANCE: Answer = refusal(1, 0, 0);
     /// No record has that many bits.
-    pub const NO_RECORD: Answer = Answer::new(2, 0, 0);
+    pub const NO_RECORD: Answer = refusal(2, 0, 0);
 
     pub const fn no_index(list: u32, place: usize) -> Self {
-        Answer::new(5, list, place)
+        refusal(5, list, place)
     }
 
     pub const fn repeated(list: u32, place: usize) -> Self {
-        Answer::new(6, list, place)
+        refusal(6, list, place)
     }
 
     pub const fn whitened(list: u32, place: usize) -> Self {
-        Answer::new(7, list, place)
+        refusal(7, list, place)
     }
 }
 
@@ -237,7 +238,7 @@ pub fn judge(
     };
     let (indices, whitening) = (lists.indices_list(), lists.whitening_list());
     if let Some(key) = lists.key {
-        exactly(Lists::KEY, key.len(), instance.key)?;
+        exactly(Lists::KEY, key.len(), key_length(instance.key))?;
     }
     if let Some(record) = lists.record {
         exactly(Lists::RECORD, record.len(), m)?;
@@ -338,9 +339,8 @@ fn fill(instance: &Instance, lists: &Lists, result: &mut [u8]) {
             }
         }
         Cipher::Kreyvium => {
-            let key = key.try_into().expect("its length is judged");
             let iv = lists.whitening.try_into().expect("its length is judged");
-            let bits = kreyvium::first_bits(key, iv);
+            let bits = first_bits(key_word(key), pack(iv));
             result.copy_from_slice(&bits[..result.len()]);
         }
     }
@@ -354,7 +354,7 @@ fn fill(instance: &Instance, lists: &Lists, result: &mut [u8]) {
 /// Writes a row's variables to `x`: the key bits that the indices name, each
 /// with the whitening bit at the index's place in the row.
 pub fn variables(key: &[u8], indices: &[u32], whitening: &[u8], x: &mut [u8]) {
-    let bit = |index: u32| key[index as usize];
+    let bit = |index: u32| key_bit(key, index as usize);
     // Eight at a time, which is faster, and then the rest.
     let (eights, rest) = indices.as_chunks::<8>();
     let (x_eights, x_rest) = x.as_chunks_mut::<8>();

@@ -3,7 +3,10 @@
 
 use crate::cipher::{Cipher, Instance, Lists, INSTANCES};
 use crate::definitions::{self, Condition};
-use crate::random::{bits, fill, Random};
+use crate::faults::{inflict_each, several};
+use crate::key::lent_key;
+use crate::random::{self, bits, fill, Random};
+use crate::tally::Tally;
 use std::collections::BTreeSet;
 
 /// A cipher call; without a record it asks for keystream.
@@ -20,6 +23,19 @@ pub struct Call {
 }
 
 impl Call {
+    /// A call of Kreyvium on these bits.
+    pub fn kreyvium(m: usize, key: &[u8], record: Option<Vec<u8>>, iv: &[u8]) -> Self {
+        Call {
+            instance: 6,
+            m: m as u32,
+            key: lent_key(key),
+            record,
+            indices: vec![],
+            whitening: iv.to_vec(),
+            result: vec![9; 70],
+        }
+    }
+
     /// What the call reads.
     pub fn lists(&self) -> Lists<'_> {
         Lists {
@@ -32,7 +48,7 @@ impl Call {
 
     /// All that holds against it.
     pub fn conditions(&self) -> BTreeSet<Condition> {
-        definitions::conditions(
+        definitions::cipher::conditions(
             self.instance,
             self.m,
             &self.key,
@@ -45,7 +61,7 @@ impl Call {
 
     /// The keystream of a call against which nothing holds.
     pub fn keystream(&self) -> Vec<u8> {
-        definitions::keystream(
+        definitions::cipher::keystream(
             self.instance,
             self.m as usize,
             &self.key,
@@ -62,20 +78,32 @@ impl Call {
         }
         expected
     }
+
+    /// Makes the lists as long as m asks for, also where no record has so many
+    /// bits.
+    pub fn suit(&mut self, random: &mut Random) {
+        let m = self.m as usize;
+        self.indices = rows(random, self.instance, m);
+        if self.instance != 6 {
+            self.whitening = vec![0; m * sized(self.instance).row];
+        }
+        if let Some(record) = &mut self.record {
+            *record = vec![0; m];
+        }
+        self.result = vec![9; m + 4];
+    }
 }
 
-fn sized(instance: u32) -> &'static Instance {
+pub fn sized(instance: u32) -> &'static Instance {
     Instance::numbered(instance).expect("an instance")
 }
 
 /// Bits of which that many in a hundred are 1.
 fn biased(random: &mut Random, length: usize, percent: usize) -> Vec<u8> {
-    if percent == 50 {
-        return bits(random, length);
+    match percent {
+        50 => bits(random, length),
+        _ => random::biased(random, length, percent),
     }
-    (0..length)
-        .map(|_| u8::from(random.chance(percent)))
-        .collect()
 }
 
 /// That many rows of different indices, end to end.
@@ -102,11 +130,11 @@ pub fn sound(random: &mut Random, instance: u32, m: usize, with_record: bool) ->
         Cipher::Filip(_) if ones > 50 => random.pick(&[0, 2, 10, 50]),
         _ => random.pick(&[50, 50, 10, 90]),
     };
-    let spare = random.pick(&[0, 0, 1, 7, 100]);
+    let spare = random.spare();
     Call {
         instance,
         m: m as u32,
-        key: biased(random, sizes.key, ones),
+        key: lent_key(&biased(random, sizes.key, ones)),
         record: with_record.then(|| bits(random, m)),
         indices: rows(random, instance, m),
         whitening: biased(random, sizes.whitening(m), whitened),
@@ -128,6 +156,70 @@ pub fn size(random: &mut Random) -> (u32, usize) {
     };
     (instance, random.between(1, most))
 }
+
+// ---- by hand ----
+
+/// Lists for one bit of FLIP-530, sound and with faults at known places.
+pub struct ByHand {
+    pub row: Vec<u32>,
+    /// With an index repeated at 7 and one beyond the key at 9.
+    pub beyond: Vec<u32>,
+    /// With indices repeated at 7, 8 and 529.
+    pub repeating: Vec<u32>,
+    pub zeros: Vec<u8>,
+    /// With a 1 at 500.
+    pub whitened: Vec<u8>,
+    /// And a 2 at 501.
+    pub spoiled: Vec<u8>,
+}
+
+pub fn by_hand() -> ByHand {
+    fn with<T: Copy>(list: &[T], changes: &[(usize, T)]) -> Vec<T> {
+        let mut list = list.to_vec();
+        for &(place, word) in changes {
+            list[place] = word;
+        }
+        list
+    }
+    let row: Vec<u32> = (0..530).collect();
+    let zeros = vec![0; 530];
+    ByHand {
+        beyond: with(&row, &[(7, 3), (9, 530)]),
+        repeating: with(&row, &[(8, 5), (7, 6), (529, 0)]),
+        row,
+        whitened: with(&zeros, &[(500, 1)]),
+        spoiled: with(&zeros, &[(500, 1), (501, 2)]),
+        zeros,
+    }
+}
+
+const FAR: [u32; 7] = [255, 256, 65_536, 65_537, 1 << 31, u32::MAX - 1, u32::MAX];
+
+/// Numbers that are no instance's.
+pub fn no_instances() -> Vec<u32> {
+    [&[0, 7, 8], &FAR[..]].concat()
+}
+
+/// Numbers of bits that no record has.
+pub fn no_records() -> Vec<u32> {
+    [&[0, 65, 66], &FAR[..]].concat()
+}
+
+/// Lengths near the exact one, and some that suit another list.
+pub fn lengths_near(exact: usize) -> impl Iterator<Item = usize> {
+    let around = exact.saturating_sub(2)..=exact + 2;
+    around.chain([0, 1, 64, 128, 144, 530, 1_394, 4_096, 16_384, 65_536])
+}
+
+/// Indices that are no key bit's: the first ones, a huge one, and some with a
+/// good one in their low bits.
+pub fn no_indices(instance: u32, good: u32) -> [u32; 6] {
+    let key = sized(instance).key as u32;
+    let above = |bit: u32| 1 << bit | good;
+    [key, key + 1, above(14), above(16), above(31), u32::MAX]
+}
+
+// ---- faults ----
 
 /// A list that a cipher call reads.
 #[derive(Clone, Copy, Debug, PartialEq, Eq, PartialOrd, Ord)]
@@ -312,7 +404,7 @@ pub fn inflict(random: &mut Random, call: &mut Call, fault: Fault) -> Condition 
                 _ => &mut call.whitening,
             };
             let place = place(random, bytes.len());
-            bytes[place] = random.pick(&[2, 2, 3, 4, 128, 129, 254, 255]);
+            bytes[place] = random.no_bit();
             (4, number, place)
         }
         Fault::Index => {
@@ -339,12 +431,7 @@ pub fn inflict(random: &mut Random, call: &mut Call, fault: Fault) -> Condition 
             (7, List::Whitening.number(call), place)
         }
         Fault::Room => {
-            let m = call.m as usize;
-            let room = match random.below(4) {
-                0 => 0,
-                1 => random.below(m),
-                _ => m - 1,
-            };
+            let room = random.fewer(call.m as usize);
             call.result.truncate(room);
             (8, List::Whitening.number(call) + 1, room)
         }
@@ -363,29 +450,19 @@ pub fn inflict_several(random: &mut Random, call: &mut Call, count: usize) -> BT
         let suits = fault.suits(call.instance, call.record.is_some());
         u32::from(suits) * fault.weight()
     });
-    let mut chosen: Vec<Fault> = (0..count)
-        .map(|_| FAULTS[random.weighted(&weights)])
-        .collect();
-    // What is judged first goes in last: the others need it sound.
-    chosen.sort();
-    chosen.dedup();
-    let mut held = None;
-    for fault in chosen.into_iter().rev() {
-        if fault <= Fault::Bits {
-            let so_far = held.get_or_insert_with(|| call.conditions());
-            so_far.insert(inflict(random, call, fault));
-            continue;
-        }
-        // A length changes once: a second change might undo the first.
+    let faults = several(count, || FAULTS[random.weighted(&weights)]);
+    let hides = |fault| fault <= Fault::Bits;
+    inflict_each(call, faults, hides, Call::conditions, |call, fault| {
         let times = match fault {
-            Fault::Length(_) => 1,
+            // A length changes once: a second change might undo the first.
+            Fault::Instance | Fault::Bits | Fault::Length(_) => 1,
             _ => random.pick(&[1, 1, 1, 2, 5]),
         };
-        for _ in 0..times {
+        for _ in 1..times {
             inflict(random, call, fault);
         }
-    }
-    held.unwrap_or_else(|| call.conditions())
+        inflict(random, call, fault)
+    })
 }
 
 /// Spoils some list with no regard to what the fault will be, or whether there
@@ -447,6 +524,22 @@ fn spoil<T: Copy>(random: &mut Random, list: &mut Vec<T>, word: T) {
     }
 }
 
+/// Each instance was given each answer that there is for it so often; they are
+/// counted by instance and number.
+pub fn assert_every_answer(answers: &Tally<(u32, u32)>, least: usize) {
+    for instance in instances() {
+        let can = |&number: &u32| match number {
+            5 | 6 => instance != 6,
+            7 => instance <= 2,
+            _ => true,
+        };
+        let numbers = (0..=8).filter(can);
+        answers.assert_each(numbers.map(|number| (instance, number)), least);
+    }
+}
+
+// ---- the choice ----
+
 /// A choice from draws.
 #[derive(Clone, Debug)]
 pub struct Choice {
@@ -458,19 +551,19 @@ pub struct Choice {
 
 impl Choice {
     pub fn conditions(&self) -> BTreeSet<Condition> {
-        definitions::choice_conditions(self.instance, &self.draws, self.row.len())
+        definitions::choice::conditions(self.instance, &self.draws, self.row.len())
     }
 
     /// The row of a choice against which nothing holds.
     pub fn expected(&self) -> Vec<u32> {
-        definitions::choice(sized(self.instance).key, &self.draws)
+        definitions::choice::row(sized(self.instance).key, &self.draws)
     }
 }
 
 /// A sound choice: draws of any size, or only small, or only large ones.
 pub fn sound_choice(random: &mut Random, instance: u32) -> Choice {
     let Instance { key, row, .. } = *sized(instance);
-    let spare = random.pick(&[0, 0, 1, 7, 100]);
+    let spare = random.spare();
     let reach = random.pick(&[key, key, key, 1, 2, 20]);
     let from_the_end = random.chance(20);
     let draws = (0..row)
@@ -523,11 +616,7 @@ pub fn inflict_choice(random: &mut Random, choice: &mut Choice, fault: ChoiceFau
             (3, 1, length)
         }
         ChoiceFault::Room => {
-            let room = match random.below(4) {
-                0 => 0,
-                1 => random.below(row),
-                _ => row - 1,
-            };
+            let room = random.fewer(row);
             choice.row.truncate(room);
             (8, 2, room)
         }
@@ -553,25 +642,24 @@ pub fn inflict_several_on_choice(
     choice: &mut Choice,
     count: usize,
 ) -> BTreeSet<Condition> {
-    let mut chosen: Vec<ChoiceFault> = (0..count).map(|_| random.pick(&CHOICE_FAULTS)).collect();
-    chosen.sort();
-    chosen.dedup();
-    let mut held = None;
-    for fault in chosen.into_iter().rev() {
-        if fault == ChoiceFault::Instance {
-            let so_far = held.get_or_insert_with(|| choice.conditions());
-            so_far.insert(inflict_choice(random, choice, fault));
-        } else {
+    let faults = several(count, || random.pick(&CHOICE_FAULTS));
+    let hides = |fault| fault == ChoiceFault::Instance;
+    inflict_each(
+        choice,
+        faults,
+        hides,
+        Choice::conditions,
+        |choice, fault| {
             let times = match fault {
                 ChoiceFault::Draw => random.pick(&[1, 1, 2, 9]),
                 _ => 1,
             };
-            for _ in 0..times {
+            for _ in 1..times {
                 inflict_choice(random, choice, fault);
             }
-        }
-    }
-    held.unwrap_or_else(|| choice.conditions())
+            inflict_choice(random, choice, fault)
+        },
+    )
 }
 
 /// The numbers of the instances.

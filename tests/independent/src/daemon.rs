@@ -5,7 +5,7 @@
 
 use crate::cipher;
 use crate::file;
-use crate::netlist::Answer;
+use crate::netlist::{refusal, Answer};
 
 /// The largest place that a packed answer holds; a larger one becomes this.
 pub const MOST_PLACE: u64 = (1 << 48) - 1;
@@ -15,6 +15,16 @@ pub const MOST_PLACE: u64 = (1 << 48) - 1;
 pub fn packed(answer: Answer) -> u64 {
     let place = (answer.place as u64).min(MOST_PLACE);
     u64::from(answer.number) | u64::from(answer.list) << 8 | place << 16
+}
+
+/// The answer that a packed one holds.
+pub fn unpacked(answer: u64) -> Answer {
+    let [number, list, place @ ..] = answer.to_le_bytes();
+    let place = place
+        .iter()
+        .rev()
+        .fold(0, |place, &byte| place << 8 | usize::from(byte));
+    refusal(number.into(), list.into(), place)
 }
 
 /// Writes the `m` bits of `record`, enciphered, to the front of `result`. The

@@ -7,28 +7,28 @@
 
 use crate::cipher::{self, by_marks, Cipher, Instance, Lists, Search, MAX_BITS, MAX_ROW};
 use crate::kreyvium::{self, SILENT};
-use crate::netlist::{Answer, AND, HEADER, MUX, NOT, ONE, XOR, ZERO};
+use crate::netlist::{refusal, words_for, Answer, Counts, Gate, AND, MUX, NOT, ONE, XOR, ZERO};
 
 /// The most inputs of a one-hot and of a threshold netlist.
 pub const MAX_COUNTED: usize = 64;
 /// The words of the largest threshold netlist.
-pub const MAX_THRESHOLD: usize = HEADER + 4 * largest_threshold() + 1;
+pub const MAX_THRESHOLD: usize = words_for(largest_threshold(), 1);
 
 impl Answer {
     /// There is no such one-hot or threshold netlist.
-    pub const NO_NETLIST: Answer = Answer::new(13, 0, 0);
+    pub const NO_NETLIST: Answer = refusal(13, 0, 0);
 }
 
 /// The gates of a netlist, as they are written one after another.
 struct Gates<'a> {
-    places: &'a mut [[u32; 4]],
+    places: &'a mut [Gate],
     written: usize,
     inputs: usize,
 }
 
 impl Gates<'_> {
     #[inline]
-    fn put(&mut self, gate: [u32; 4]) -> u32 {
+    fn put(&mut self, gate: Gate) -> u32 {
         self.places[self.written] = gate;
         let wire = self.inputs + self.written;
         self.written += 1;
@@ -69,7 +69,7 @@ impl Gates<'_> {
     /// The places of the next gates, all of which have to be filled in, and the
     /// wire of the first.
     #[inline]
-    fn next<const COUNT: usize>(&mut self) -> (&mut [[u32; 4]; COUNT], u32) {
+    fn next<const COUNT: usize>(&mut self) -> (&mut [Gate; COUNT], u32) {
         let places = self.places[self.written..].first_chunk_mut();
         let wire = self.inputs + self.written;
         self.written += COUNT;
@@ -77,41 +77,27 @@ impl Gates<'_> {
     }
 }
 
-/// How many inputs, gates and outputs a netlist has.
-struct Counts {
-    inputs: usize,
-    gates: usize,
-    outputs: usize,
-}
-
-impl Counts {
-    /// Writes such a netlist to the front of `result`, the list so numbered:
-    /// `write` writes the gates and the outputs.
-    fn emit(
-        &self,
-        list: u32,
-        result: &mut [u32],
-        write: impl FnOnce(&mut Gates, &mut [u32]),
-    ) -> Result<(), Answer> {
-        let room = result.len();
-        let result = result
-            .get_mut(..HEADER + 4 * self.gates + self.outputs)
-            .ok_or(Answer::too_short(list, room))?;
-        let (counts, body) = result.split_at_mut(HEADER);
-        let (gate_words, outputs) = body.split_at_mut(4 * self.gates);
-        let (places, _) = gate_words.as_chunks_mut::<4>();
-        counts[0] = self.inputs as u32;
-        counts[1] = self.gates as u32;
-        counts[2] = self.outputs as u32;
-        let mut gates = Gates {
-            places,
-            written: 0,
-            inputs: self.inputs,
-        };
-        write(&mut gates, outputs);
-        assert_eq!(gates.written, self.gates, "the gates are counted");
-        Ok(())
-    }
+/// Writes a netlist with these counts to the front of `result`, the list so
+/// numbered: `write` writes the gates and the outputs.
+fn emit(
+    counts: &Counts,
+    list: u32,
+    result: &mut [u32],
+    write: impl FnOnce(&mut Gates, &mut [u32]),
+) -> Result<(), Answer> {
+    let room = result.len();
+    let result = result
+        .get_mut(..counts.words())
+        .ok_or(Answer::too_short(list, room))?;
+    let (places, outputs) = counts.lay_out(result);
+    let mut gates = Gates {
+        places,
+        written: 0,
+        inputs: counts.inputs,
+    };
+    write(&mut gates, outputs);
+    assert_eq!(gates.written, counts.gates, "the gates are counted");
+    Ok(())
 }
 
 // ---- one-hot ----
@@ -134,7 +120,7 @@ fn try_one_hot(n: usize, result: &mut [u32]) -> Result<(), Answer> {
         },
         outputs: n + 1,
     };
-    counts.emit(1, result, put_one_hot)
+    emit(&counts, 1, result, put_one_hot)
 }
 
 /// The outputs are the cells, one more than there are inputs.
@@ -177,7 +163,7 @@ fn try_threshold(d: usize, n: usize, result: &mut [u32]) -> Result<(), Answer> {
         gates: threshold_gates(d, n),
         outputs: 1,
     };
-    counts.emit(1, result, |gates, outputs| {
+    emit(&counts, 1, result, |gates, outputs| {
         outputs[0] = if d > n {
             gates.put([ZERO, 0, 0, 0])
         } else {
@@ -424,7 +410,7 @@ fn try_decipher(
         gates: deciphering_gates(number, m, whitening),
         outputs: m,
     };
-    counts.emit(lists.result_list(), result, |gates, outputs| {
+    emit(&counts, lists.result_list(), result, |gates, outputs| {
         if let Cipher::Kreyvium = instance.cipher {
             return put_kreyvium(gates, whitening, outputs);
         }
@@ -459,6 +445,7 @@ pub fn deciphering_gates(number: u32, m: usize, whitening: &[u8]) -> usize {
 }
 
 /// How large a deciphering netlist is: 0 gates and 0 words on a refusal.
+#[repr(C)]
 #[derive(Clone, Copy, Debug, PartialEq, Eq)]
 pub struct Size {
     pub answer: Answer,
@@ -492,7 +479,7 @@ pub fn decipher_size(number: u32, m: u32, indices: &[u32], whitening: &[u8]) -> 
             Size {
                 answer: Answer::DONE,
                 gates,
-                words: HEADER + 4 * gates + m as usize,
+                words: words_for(gates, m as usize),
             }
         }
     }

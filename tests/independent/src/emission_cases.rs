@@ -3,7 +3,11 @@
 
 use crate::cases::{self, Shape};
 use crate::cipher_cases::{self, Call, Fault, List};
-use crate::definitions::{self, Condition};
+use crate::definitions::filter::weight;
+use crate::definitions::{deciphering, Condition};
+use crate::faults::{inflict_each, several};
+use crate::key::deciphering_inputs;
+use crate::netlist::HEADER_WORDS;
 use crate::random::{fill, Random};
 use std::collections::BTreeSet;
 
@@ -20,7 +24,7 @@ pub struct Emission {
 impl Emission {
     /// All that holds against it.
     pub fn conditions(&self) -> BTreeSet<Condition> {
-        definitions::emission_conditions(
+        deciphering::conditions(
             self.call.instance,
             self.call.m,
             &self.call.indices,
@@ -31,7 +35,7 @@ impl Emission {
 
     /// The netlist of an emission against which nothing holds.
     pub fn expected(&self) -> Vec<u32> {
-        definitions::deciphering_netlist(
+        deciphering::netlist(
             self.call.instance,
             self.call.m as usize,
             &self.call.indices,
@@ -41,17 +45,16 @@ impl Emission {
 
     /// How many words that netlist has.
     pub fn words(&self) -> usize {
-        let whitening = &self.call.whitening;
         let whitened = match self.call.instance {
             6 => 0,
-            _ => whitening.iter().filter(|&&white| white == 1).count(),
+            _ => weight(&self.call.whitening),
         };
-        definitions::deciphering_words(self.call.instance, self.call.m as usize, whitened)
+        deciphering::words(self.call.instance, self.call.m as usize, whitened)
     }
 
     /// The key, and the record as it was enciphered: the netlist's inputs.
     pub fn inputs(&self) -> Vec<u8> {
-        [self.call.key.clone(), self.call.expected()].concat()
+        deciphering_inputs(&self.call.key, &self.call.expected())
     }
 
     /// The record: the netlist's outputs.
@@ -90,7 +93,7 @@ pub fn inflict(random: &mut Random, emission: &mut Emission, fault: Fault) -> Co
         let words = emission.words();
         let room = match random.below(8) {
             0 => 0,
-            1 => 3,
+            1 => HEADER_WORDS,
             2 => words - emission.call.m as usize,
             3 => random.below(words),
             _ => words - 1,
@@ -113,29 +116,25 @@ pub fn inflict_several(
 ) -> BTreeSet<Condition> {
     let weights =
         FAULTS.map(|fault| u32::from(fault.suits(emission.call.instance, true)) * fault.weight());
-    let mut chosen: Vec<Fault> = (0..count)
-        .map(|_| FAULTS[random.weighted(&weights)])
-        .collect();
-    // What is judged first goes in last: the others need it sound.
-    chosen.sort();
-    chosen.dedup();
-    let mut held = None;
-    for fault in chosen.into_iter().rev() {
-        if fault <= Fault::Bits {
-            let so_far = held.get_or_insert_with(|| emission.conditions());
-            so_far.insert(inflict(random, emission, fault));
-            continue;
-        }
-        // A length changes once: a second change might undo the first.
-        let times = match fault {
-            Fault::Length(_) | Fault::Room => 1,
-            _ => random.pick(&[1, 1, 1, 2, 5]),
-        };
-        for _ in 0..times {
-            inflict(random, emission, fault);
-        }
-    }
-    held.unwrap_or_else(|| emission.conditions())
+    let faults = several(count, || FAULTS[random.weighted(&weights)]);
+    let hides = |fault| fault <= Fault::Bits;
+    inflict_each(
+        emission,
+        faults,
+        hides,
+        Emission::conditions,
+        |emission, fault| {
+            let times = match fault {
+                // A length changes once: a second change might undo the first.
+                Fault::Instance | Fault::Bits | Fault::Length(_) | Fault::Room => 1,
+                _ => random.pick(&[1, 1, 1, 2, 5]),
+            };
+            for _ in 1..times {
+                inflict(random, emission, fault);
+            }
+            inflict(random, emission, fault)
+        },
+    )
 }
 
 /// Spoils some list with no regard to what the fault will be, or whether there

@@ -6,7 +6,10 @@
 
 #![forbid(unsafe_code)]
 
-use crate::netlist::{gate_fault, Answer, Netlist, HEADER, MAX_GATES, MAX_INPUTS, MAX_OUTPUTS};
+use crate::netlist::{
+    gate_fault, gate_place, refusal, Answer, Counts, Gate, Netlist, GATES_PLACE, INPUTS_PLACE,
+    MAX_GATES, MAX_INPUTS, MAX_OUTPUTS, OUTPUTS_PLACE,
+};
 
 pub const HEADER_MARK: [u8; 2] = *b"NH";
 pub const GATE_MARK: [u8; 2] = *b"NG";
@@ -20,7 +23,7 @@ pub const OUTPUT_BYTES: usize = 6;
 impl Answer {
     /// A mark is wrong, a record cut, or bytes are left over.
     pub const fn broken_file(place: usize) -> Self {
-        Answer::new(12, 1, place)
+        refusal(12, 1, place)
     }
 }
 
@@ -29,15 +32,13 @@ type OutputRecord = [u8; OUTPUT_BYTES];
 
 /// The header of a file, its counts within their limits.
 struct Header<'a> {
-    inputs: usize,
-    gates: usize,
-    outputs: usize,
+    counts: Counts,
     rest: &'a [u8],
 }
 
 /// A sound file, seen in its bytes.
 struct File<'a> {
-    inputs: usize,
+    counts: Counts,
     gates: &'a [GateRecord],
     outputs: &'a [OutputRecord],
 }
@@ -49,7 +50,7 @@ fn word(bytes: &[u8], at: usize) -> u32 {
 
 /// The four words of a gate.
 #[inline]
-fn gate(record: &GateRecord) -> [u32; 4] {
+fn gate(record: &GateRecord) -> Gate {
     [
         u32::from(record[2]),
         word(record, 3),
@@ -87,51 +88,47 @@ impl<'a> Header<'a> {
         let (records, rest) = records::<HEADER_BYTES>(source, 0, 1, HEADER_MARK)?;
         let [inputs, gates, outputs] = [2, 6, 10].map(|at| word(&records[0], at) as usize);
         for (place, count, most) in [
-            (0, inputs, MAX_INPUTS),
-            (1, gates, MAX_GATES),
-            (2, outputs, MAX_OUTPUTS),
+            (INPUTS_PLACE, inputs, MAX_INPUTS),
+            (GATES_PLACE, gates, MAX_GATES),
+            (OUTPUTS_PLACE, outputs, MAX_OUTPUTS),
         ] {
             if count > most {
                 return Err(Answer::broken_netlist(1, place));
             }
         }
-        Ok(Header {
+        let counts = Counts {
             inputs,
             gates,
             outputs,
-            rest,
-        })
-    }
-
-    /// How many words the netlist has.
-    fn words(&self) -> usize {
-        HEADER + 4 * self.gates + self.outputs
+        };
+        Ok(Header { counts, rest })
     }
 
     /// The records after the header, which keep the netlist rules.
     fn file(self) -> Result<File<'a>, Answer> {
+        let Header { counts, rest } = self;
         let at = HEADER_BYTES;
-        let (gates, rest) = records(self.rest, at, self.gates, GATE_MARK)?;
-        let at = at + GATE_BYTES * self.gates;
-        let (outputs, rest) = records(rest, at, self.outputs, OUTPUT_MARK)?;
-        let at = at + OUTPUT_BYTES * self.outputs;
+        let (gates, rest) = records(rest, at, counts.gates, GATE_MARK)?;
+        let at = at + GATE_BYTES * counts.gates;
+        let (outputs, rest) = records(rest, at, counts.outputs, OUTPUT_MARK)?;
+        let at = at + OUTPUT_BYTES * counts.outputs;
         if !rest.is_empty() {
             return Err(Answer::broken_file(at));
         }
         for (g, record) in gates.iter().enumerate() {
-            if let Some(fault) = gate_fault(&gate(record), self.inputs + g) {
-                return Err(Answer::broken_netlist(1, HEADER + 4 * g + fault));
+            if let Some(fault) = gate_fault(&gate(record), counts.inputs + g) {
+                return Err(Answer::broken_netlist(1, gate_place(g) + fault));
             }
         }
-        let wires = self.inputs + self.gates;
+        let wires = counts.wires();
         let fault = outputs
             .iter()
             .position(|record| output(record) as usize >= wires);
         if let Some(o) = fault {
-            return Err(Answer::broken_netlist(1, HEADER + 4 * self.gates + o));
+            return Err(Answer::broken_netlist(1, gate_place(counts.gates) + o));
         }
         Ok(File {
-            inputs: self.inputs,
+            counts,
             gates,
             outputs,
         })
@@ -156,17 +153,12 @@ fn try_read_file(source: &[u8], result: &mut [u32]) -> Result<(), Answer> {
     let header = Header::parse(source)?;
     let room = result.len();
     let result = result
-        .get_mut(..header.words())
+        .get_mut(..header.counts.words())
         .ok_or(Answer::too_short(2, room))?;
     let file = header.file()?;
 
-    let (counts, body) = result.split_at_mut(HEADER);
-    let (gate_words, outputs) = body.split_at_mut(4 * file.gates.len());
-    let (gate_words, _) = gate_words.as_chunks_mut::<4>();
-    counts[0] = file.inputs as u32;
-    counts[1] = file.gates.len() as u32;
-    counts[2] = file.outputs.len() as u32;
-    for (to, record) in gate_words.iter_mut().zip(file.gates) {
+    let (gates, outputs) = file.counts.lay_out(result);
+    for (to, record) in gates.iter_mut().zip(file.gates) {
         *to = gate(record);
     }
     for (to, record) in outputs.iter_mut().zip(file.outputs) {

@@ -1,9 +1,13 @@
 //! Netlist files to test with: sound ones, and damaged ones.
 
 use crate::cases::{self, Shape};
-use crate::definitions::{self, Condition, Stage};
+use crate::definitions::file::{self, Stage};
+use crate::definitions::Condition;
+use crate::faults;
 use crate::file::{GATE_BYTES, HEADER_BYTES, OUTPUT_BYTES};
-use crate::netlist::{HEADER, MAX_GATES, MAX_INPUTS, MAX_OUTPUTS};
+use crate::netlist::{
+    gate_place, Counts, GATE_WORDS, HEADER_WORDS, MAX_GATES, MAX_INPUTS, MAX_OUTPUTS,
+};
 use crate::random::{fill, Random};
 
 /// The reading of a file.
@@ -19,15 +23,7 @@ pub struct Reading {
 impl Reading {
     /// What holds against it, in the order in which it is judged.
     pub fn conditions(&self) -> Vec<(Stage, Condition)> {
-        definitions::file_conditions(&self.source, self.result.len())
-    }
-
-    fn gates(&self) -> usize {
-        self.words[1] as usize
-    }
-
-    fn outputs(&self) -> usize {
-        self.words[2] as usize
+        file::conditions(&self.source, self.result.len())
     }
 
     /// Where the record of gate `g` begins.
@@ -37,7 +33,7 @@ impl Reading {
 
     /// And that of output `o`.
     fn output_record(&self, o: usize) -> usize {
-        self.gate_record(self.gates()) + OUTPUT_BYTES * o
+        self.gate_record(Counts::of(&self.words).gates) + OUTPUT_BYTES * o
     }
 
     /// Where the record begins to which the byte belongs, were it there.
@@ -60,9 +56,9 @@ impl Reading {
 /// A sound reading.
 pub fn sound(random: &mut Random, shape: &Shape) -> Reading {
     let words = cases::sound(random, shape);
-    let spare = random.pick(&[0, 0, 1, 7, 100]);
+    let spare = random.spare();
     Reading {
-        source: definitions::file(&words),
+        source: file::bytes(&words),
         result: fill(random, words.len() + spare),
         words,
     }
@@ -130,7 +126,7 @@ fn spoil_mark(random: &mut Random, source: &mut [u8], at: usize) {
 /// `None` where the file has no place for the fault. The reading is sound, but
 /// for faults that are judged later.
 pub fn inflict(random: &mut Random, reading: &mut Reading, fault: Fault) -> Option<Condition> {
-    let (gates, outputs) = (reading.gates(), reading.outputs());
+    let Counts { gates, outputs, .. } = Counts::of(&reading.words);
     match fault {
         Fault::CutHeader => {
             reading.source.truncate(random.below(HEADER_BYTES));
@@ -154,12 +150,7 @@ pub fn inflict(random: &mut Random, reading: &mut Reading, fault: Fault) -> Opti
             Some((9, 1, place))
         }
         Fault::Room => {
-            let words = reading.words.len();
-            let room = match random.below(4) {
-                0 => 0,
-                1 => random.below(words),
-                _ => words - 1,
-            };
+            let room = random.fewer(reading.words.len());
             reading.result.truncate(room);
             Some((8, 2, room))
         }
@@ -214,7 +205,7 @@ pub fn inflict(random: &mut Random, reading: &mut Reading, fault: Fault) -> Opti
                 2 => good | 1 << random.between(3, 7),
                 _ => random.between(6, 255) as u8,
             };
-            Some((9, 1, HEADER + 4 * g))
+            Some((9, 1, gate_place(g)))
         }
         Fault::Used(_) | Fault::Unused(_) | Fault::Output => {
             let mut words = reading.words.clone();
@@ -225,9 +216,10 @@ pub fn inflict(random: &mut Random, reading: &mut Reading, fault: Fault) -> Opti
             };
             let place = cases::inflict(random, &mut words, of_words)?;
             let at = match fault {
-                Fault::Output => reading.output_record(place - HEADER - 4 * gates) + 2,
+                Fault::Output => reading.output_record(place - gate_place(gates)) + 2,
                 _ => {
-                    let (g, operand) = ((place - HEADER) / 4, (place - HEADER) % 4);
+                    let in_gates = place - HEADER_WORDS;
+                    let (g, operand) = (in_gates / GATE_WORDS, in_gates % GATE_WORDS);
                     reading.gate_record(g) + 3 + 4 * (operand - 1)
                 }
             };
@@ -239,15 +231,12 @@ pub fn inflict(random: &mut Random, reading: &mut Reading, fault: Fault) -> Opti
 
 /// Puts up to `count` different faults into a sound reading.
 pub fn inflict_several(random: &mut Random, reading: &mut Reading, count: usize) {
-    let mut chosen: Vec<Fault> = (0..count).map(|_| random.pick(&FAULTS)).collect();
-    if chosen.contains(&Fault::Cut) {
+    let mut several = faults::several(count, || random.pick(&FAULTS));
+    if several.contains(&Fault::Cut) {
         // One might undo the other.
-        chosen.retain(|&fault| fault != Fault::LeftOver);
+        several.retain(|&fault| fault != Fault::LeftOver);
     }
-    // What is judged first goes in last, and what is cut after what is marked.
-    chosen.sort();
-    chosen.dedup();
-    for fault in chosen.into_iter().rev() {
+    for fault in several {
         inflict(random, reading, fault);
     }
 }

@@ -1,10 +1,10 @@
 //! Calls on the file of port records to test and time with: sound ones, and
 //! damaged ones.
 
-use crate::definitions::{self, FrameConditions};
+use crate::definitions::frames::{self, FrameConditions};
 use crate::frames::{FRAME, MARK, RECORD};
+use crate::key::lent_key;
 use crate::kreyvium;
-use crate::netlist::Answer;
 use crate::random::{bits, fill, Random};
 
 /// An appending to a file, or after its last frame.
@@ -23,7 +23,7 @@ impl Appending {
     /// What holds against it, in the order in which it is judged: as an
     /// appending to a file, or after a last frame.
     pub fn conditions(&self, last_alone: bool) -> FrameConditions {
-        definitions::append_conditions(
+        frames::append_conditions(
             &self.key,
             &self.record,
             &self.iv,
@@ -35,7 +35,16 @@ impl Appending {
 
     /// The frame, where nothing holds against it.
     pub fn expected(&self) -> Vec<u8> {
-        definitions::frame(&self.key, &self.record, &self.iv)
+        frames::frame(&self.key, &self.record, &self.iv)
+    }
+
+    /// The same with the last 26 bytes of the file.
+    pub fn after_last(&self) -> Self {
+        let first = self.file.len().saturating_sub(FRAME);
+        Appending {
+            file: self.file[first..].to_vec(),
+            ..self.clone()
+        }
     }
 }
 
@@ -49,27 +58,28 @@ pub struct Reading {
 }
 
 impl Reading {
+    /// With room for the records that are whole, and no more.
+    pub fn exact(key: &[u8], file: &[u8]) -> Self {
+        Reading {
+            key: key.to_vec(),
+            file: file.to_vec(),
+            records: vec![9; RECORD * (file.len() / FRAME)],
+        }
+    }
+
     pub fn conditions(&self) -> FrameConditions {
-        definitions::read_conditions(&self.key, &self.file, self.records.len())
+        frames::read_conditions(&self.key, &self.file, self.records.len())
     }
 
     /// The records, where nothing holds against it.
     pub fn expected(&self) -> Vec<u8> {
-        definitions::records(&self.key, &self.file)
-    }
-}
-
-/// The answer to a call against which that holds.
-pub fn least(held: &FrameConditions) -> Answer {
-    match held.first() {
-        Some(&(_, (number, list, place))) => Answer::new(number, list, place),
-        None => Answer::DONE,
+        frames::records(&self.key, &self.file)
     }
 }
 
 /// A number as the bits of an IV.
 pub fn iv_bits(number: u128) -> Vec<u8> {
-    definitions::bits_of(&number.to_be_bytes())
+    frames::bits_of(&number.to_be_bytes())
 }
 
 pub fn number(random: &mut Random) -> u128 {
@@ -116,9 +126,9 @@ pub fn file(random: &mut Random, ivs: &[u128]) -> Vec<u8> {
 pub fn sound_appending(random: &mut Random, frames: usize) -> Appending {
     let mut ivs = rising(random, frames + 1);
     let new = ivs.pop().expect("one for the new frame");
-    let spare = random.pick(&[0, 0, 1, 7, 100]);
+    let spare = random.spare();
     Appending {
-        key: bits(random, kreyvium::BITS),
+        key: lent_key(&bits(random, kreyvium::BITS)),
         record: bits(random, RECORD),
         iv: iv_bits(new),
         file: file(random, &ivs),
@@ -129,9 +139,9 @@ pub fn sound_appending(random: &mut Random, frames: usize) -> Appending {
 /// A sound reading of a file of that many frames.
 pub fn sound_reading(random: &mut Random, frames: usize) -> Reading {
     let ivs = rising(random, frames);
-    let spare = random.pick(&[0, 0, 1, 7, 100]);
+    let spare = random.spare();
     Reading {
-        key: bits(random, kreyvium::BITS),
+        key: lent_key(&bits(random, kreyvium::BITS)),
         file: file(random, &ivs),
         records: fill(random, RECORD * frames + spare),
     }
@@ -199,7 +209,7 @@ pub fn spoil_bit(random: &mut Random, list: &mut [u8]) -> usize {
         1 => list.len() - 1,
         _ => random.below(list.len()),
     };
-    list[place] = random.pick(&[2, 2, 3, 4, 128, 129, 254, 255]);
+    list[place] = random.no_bit();
     place
 }
 

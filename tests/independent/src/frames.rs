@@ -7,8 +7,9 @@
 
 #![forbid(unsafe_code)]
 
+use crate::key::{key_length, key_word};
 use crate::kreyvium::{self, first_word, pack, pack_half, unpack};
-use crate::netlist::Answer;
+use crate::netlist::{refusal, Answer};
 
 pub const MARK: [u8; 2] = *b"PT";
 
@@ -18,15 +19,18 @@ pub const FRAME: usize = 26;
 /// The bits of a record.
 pub const RECORD: usize = 64;
 
+/// How long the list of a key is.
+const KEY: usize = key_length(kreyvium::BITS);
+
 impl Answer {
     /// A frame is cut, or its mark is wrong.
     pub const fn broken_frame(list: u32, place: usize) -> Self {
-        Answer::new(15, list, place)
+        refusal(15, list, place)
     }
 
     /// An IV is not above the one before.
     pub const fn not_above(list: u32, place: usize) -> Self {
-        Answer::new(16, list, place)
+        refusal(16, list, place)
     }
 }
 
@@ -114,7 +118,7 @@ fn try_append(
     judge_length: impl FnOnce(usize) -> Result<(), Answer>,
     frame: &mut [u8],
 ) -> Result<(), Answer> {
-    let key = exactly::<{ kreyvium::BITS }>(1, key)?;
+    let key = exactly::<KEY>(1, key)?;
     let record = exactly::<RECORD>(2, record)?;
     let iv_bits = exactly::<{ kreyvium::BITS }>(3, iv_bits)?;
     judge_length(file.len())?;
@@ -130,7 +134,7 @@ fn try_append(
     let room = frame.len();
     let frame: &mut Frame = frame.first_chunk_mut().ok_or(Answer::too_short(5, room))?;
 
-    let record = add_keystream(pack(key), new, pack_half(record));
+    let record = add_keystream(key_word(key), new, pack_half(record));
     let (mark, rest) = frame.split_at_mut(MARK.len());
     let (of_iv, of_record) = rest.split_at_mut(16);
     mark.copy_from_slice(&MARK);
@@ -146,7 +150,7 @@ pub fn read(key: &[u8], file: &[u8], records: &mut [u8]) -> Answer {
 }
 
 fn try_read(key: &[u8], file: &[u8], records: &mut [u8]) -> Result<(), Answer> {
-    let key = exactly::<{ kreyvium::BITS }>(1, key)?;
+    let key = exactly::<KEY>(1, key)?;
     judge_bits(1, key)?;
     let frames = judge(file, 2)?;
     let room = records.len();
@@ -155,7 +159,7 @@ fn try_read(key: &[u8], file: &[u8], records: &mut [u8]) -> Result<(), Answer> {
         .get_mut(..frames.len())
         .ok_or(Answer::too_short(3, room))?;
 
-    let key = pack(key);
+    let key = key_word(key);
     for (record, frame) in records.iter_mut().zip(frames) {
         let word = add_keystream(key, iv(frame), enciphered(frame));
         *record = unpack(word.reverse_bits());
@@ -177,6 +181,7 @@ pub type Fields = [u32; 5];
 pub const WIDTHS: [u32; 5] = [16, 1, 1, 22, 24];
 
 /// What [`fields`] answers; with a refusal all fields are 0.
+#[repr(C)]
 #[derive(Clone, Copy, Debug, PartialEq, Eq)]
 pub struct Taken {
     pub answer: Answer,
@@ -185,6 +190,7 @@ pub struct Taken {
 
 /// What [`bits`] answers. `too_large` is the number of the first field whose
 /// value is too large for it, or 0; nothing else is then judged.
+#[repr(C)]
 #[derive(Clone, Copy, Debug, PartialEq, Eq)]
 pub struct Put {
     pub answer: Answer,

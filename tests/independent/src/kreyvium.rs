@@ -117,9 +117,10 @@ pub fn unpack(word: u64) -> [u8; 64] {
     bits
 }
 
-/// The first 64 bits of keystream.
-pub fn first_bits(key: &[u8; BITS], iv: &[u8; BITS]) -> [u8; 64] {
-    unpack(first_word(pack(key), pack(iv)))
+/// The first 64 bits of keystream, of a key and an IV as in
+/// [`Rounds::packed`].
+pub fn first_bits(key: u128, iv: u128) -> [u8; 64] {
+    unpack(first_word(key, iv))
 }
 
 /// The same in a word, the first in the lowest place.

@@ -5,6 +5,13 @@ use std::fmt::Debug;
 use std::hint::black_box;
 use std::ops::Range;
 
+/// The two programs that have to agree.
+#[derive(Clone, Copy)]
+pub enum Program {
+    Library,
+    Rust,
+}
+
 /// A list lent to both programs, each having its own copy between margins that
 /// show a write outside it.
 pub struct Lent<T> {
@@ -32,20 +39,13 @@ impl<T: Arbitrary + Debug + PartialEq> Lent<T> {
         MARGIN..self.before.len() - MARGIN
     }
 
-    pub fn library(&mut self) -> &mut [T] {
+    /// The copy of that program.
+    pub fn of(&mut self, program: Program) -> &mut [T] {
         let range = self.between();
-        &mut self.library[range]
-    }
-
-    pub fn rust(&mut self) -> &mut [T] {
-        let range = self.between();
-        &mut self.rust[range]
-    }
-
-    /// The library's copy and that of the Rust program.
-    pub fn each(&mut self) -> (&mut [T], &mut [T]) {
-        let range = self.between();
-        (&mut self.library[range.clone()], &mut self.rust[range])
+        match program {
+            Program::Library => &mut self.library[range],
+            Program::Rust => &mut self.rust[range],
+        }
     }
 
     /// Both copies are alike, and as before but for the first `written`.

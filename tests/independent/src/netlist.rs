@@ -10,8 +10,7 @@ pub const MAX_INPUTS: usize = 32_768;
 pub const MAX_GATES: usize = 262_144;
 pub const MAX_OUTPUTS: usize = 4_096;
 
-/// The three counts stand before the gates.
-pub const HEADER: usize = 3;
+// ---- kinds ----
 
 pub const ZERO: u32 = 0;
 pub const ONE: u32 = 1;
@@ -20,7 +19,108 @@ pub const XOR: u32 = 3;
 pub const AND: u32 = 4;
 pub const MUX: u32 = 5;
 
-/// What a call answers; all 0 means done.
+/// How many operands each kind uses, by its code.
+pub const ARITY: [usize; 6] = [0, 0, 1, 2, 2, 3];
+
+/// The value of each kind, by its code: bit a + 2b + 4c of it is the value on
+/// a, b, c.
+const TRUTH: [u8; 6] = [
+    0b0000_0000, // ZERO
+    0b1111_1111, // ONE
+    0b0101_0101, // NOT a
+    0b0110_0110, // XOR a b
+    0b1000_1000, // AND a b
+    0b1110_0100, // MUX a b c: b if a is 0, c if a is 1
+];
+
+// ---- the layout of the words ----
+
+/// The three counts stand before the gates.
+pub const HEADER_WORDS: usize = 3;
+/// Where each of them stands.
+pub const INPUTS_PLACE: usize = 0;
+pub const GATES_PLACE: usize = 1;
+pub const OUTPUTS_PLACE: usize = 2;
+
+/// A gate has its kind and three operands.
+pub const GATE_WORDS: usize = 4;
+pub type Gate = [u32; GATE_WORDS];
+
+/// Where gate `g` begins; after the last gate, where the outputs do.
+pub const fn gate_place(g: usize) -> usize {
+    HEADER_WORDS + GATE_WORDS * g
+}
+
+/// How many words a netlist has.
+pub const fn words_for(gates: usize, outputs: usize) -> usize {
+    gate_place(gates) + outputs
+}
+
+/// How many inputs, gates and outputs a netlist has.
+#[derive(Clone, Copy, Debug, PartialEq, Eq)]
+pub struct Counts {
+    pub inputs: usize,
+    pub gates: usize,
+    pub outputs: usize,
+}
+
+impl Counts {
+    /// The counts that these words begin with.
+    pub fn of(words: &[u32]) -> Self {
+        Counts {
+            inputs: words[INPUTS_PLACE] as usize,
+            gates: words[GATES_PLACE] as usize,
+            outputs: words[OUTPUTS_PLACE] as usize,
+        }
+    }
+
+    /// The words that such a netlist begins with.
+    pub fn header(&self) -> [u32; HEADER_WORDS] {
+        [self.inputs, self.gates, self.outputs].map(|count| count as u32)
+    }
+
+    pub const fn wires(&self) -> usize {
+        self.inputs + self.gates
+    }
+
+    pub const fn words(&self) -> usize {
+        words_for(self.gates, self.outputs)
+    }
+
+    /// Writes the header of such a netlist, which `words` has room for; the
+    /// places of its gates and of its outputs.
+    #[inline]
+    pub fn lay_out<'a>(&self, words: &'a mut [u32]) -> (&'a mut [Gate], &'a mut [u32]) {
+        let (header, body) = words.split_at_mut(HEADER_WORDS);
+        let (gates, outputs) = body.split_at_mut(GATE_WORDS * self.gates);
+        let (gates, _) = gates.as_chunks_mut();
+        header.copy_from_slice(&self.header());
+        (gates, outputs)
+    }
+}
+
+/// The gates of a netlist.
+pub fn gates(words: &[u32]) -> &[Gate] {
+    let (gates, _) = words[HEADER_WORDS..gate_place(Counts::of(words).gates)].as_chunks();
+    gates
+}
+
+/// And its outputs.
+pub fn outputs(words: &[u32]) -> &[u32] {
+    let counts = Counts::of(words);
+    &words[gate_place(counts.gates)..counts.words()]
+}
+
+/// The length of the netlist that these words begin with.
+pub fn length(words: &[u32]) -> usize {
+    Counts::of(words).words()
+}
+
+// ---- answers ----
+
+/// What a call answers; all 0 means done. Its fields, and those of the answers
+/// that have one in them, are in the order in which the library gives them.
+#[repr(C)]
 #[derive(Clone, Copy, Debug, PartialEq, Eq)]
 pub struct Answer {
     pub number: u32,
@@ -28,33 +128,39 @@ pub struct Answer {
     pub place: usize,
 }
 
-impl Answer {
-    pub const DONE: Answer = Answer::new(0, 0, 0);
-    pub const COUNTS_DIFFER: Answer = Answer::new(10, 0, 0);
-    pub const TOO_MANY_GATES: Answer = Answer::new(11, 0, 0);
-
-    pub const fn new(number: u32, list: u32, place: usize) -> Self {
-        Answer {
-            number,
-            list,
-            place,
-        }
+/// The refusal with that number, for that place of a list; lists are counted
+/// from 1.
+pub const fn refusal(number: u32, list: u32, place: usize) -> Answer {
+    Answer {
+        number,
+        list,
+        place,
     }
+}
+
+impl Answer {
+    pub const DONE: Answer = Answer {
+        number: 0,
+        list: 0,
+        place: 0,
+    };
+    pub const COUNTS_DIFFER: Answer = refusal(10, 0, 0);
+    pub const TOO_MANY_GATES: Answer = refusal(11, 0, 0);
 
     pub const fn wrong_length(list: u32, length: usize) -> Self {
-        Answer::new(3, list, length)
+        refusal(3, list, length)
     }
 
     pub const fn not_a_bit(list: u32, place: usize) -> Self {
-        Answer::new(4, list, place)
+        refusal(4, list, place)
     }
 
     pub const fn too_short(list: u32, length: usize) -> Self {
-        Answer::new(8, list, length)
+        refusal(8, list, length)
     }
 
     pub const fn broken_netlist(list: u32, place: usize) -> Self {
-        Answer::new(9, list, place)
+        refusal(9, list, place)
     }
 }
 
@@ -65,6 +171,7 @@ impl From<Result<(), Answer>> for Answer {
 }
 
 /// What the meter answers.
+#[repr(C)]
 #[derive(Clone, Copy, Debug, PartialEq, Eq)]
 pub struct Metering {
     pub answer: Answer,
@@ -84,24 +191,12 @@ impl Level {
     pub const EMPTY: Level = Level { ands: 0, muxes: 0 };
 }
 
-/// How many operands each kind uses, by its code.
-pub const ARITY: [usize; 6] = [0, 0, 1, 2, 2, 3];
-
-/// The value of each kind, by its code: bit a + 2b + 4c of it is the value on
-/// a, b, c.
-const TRUTH: [u8; 6] = [
-    0b0000_0000, // ZERO
-    0b1111_1111, // ONE
-    0b0101_0101, // NOT a
-    0b0110_0110, // XOR a b
-    0b1000_1000, // AND a b
-    0b1110_0100, // MUX a b c: b if a is 0, c if a is 1
-];
+// ---- the netlist in its words ----
 
 /// A sound netlist, seen in its words.
 pub(crate) struct Netlist<'a> {
     pub(crate) inputs: usize,
-    pub(crate) gates: &'a [[u32; 4]],
+    pub(crate) gates: &'a [Gate],
     pub(crate) outputs: &'a [u32],
 }
 
@@ -113,23 +208,23 @@ impl<'a> Netlist<'a> {
         };
         let (inputs, gates, outputs) = (inputs as usize, gates as usize, outputs as usize);
         if inputs > MAX_INPUTS {
-            return Err(0);
+            return Err(INPUTS_PLACE);
         }
         if gates > MAX_GATES {
-            return Err(1);
+            return Err(GATES_PLACE);
         }
         if outputs > MAX_OUTPUTS {
-            return Err(2);
+            return Err(OUTPUTS_PLACE);
         }
-        if body.len() != 4 * gates + outputs {
+        if body.len() != GATE_WORDS * gates + outputs {
             return Err(words.len());
         }
-        let (gate_words, outputs) = body.split_at(4 * gates);
-        let (gates, _) = gate_words.as_chunks::<4>();
+        let (gate_words, outputs) = body.split_at(GATE_WORDS * gates);
+        let (gates, _) = gate_words.as_chunks::<GATE_WORDS>();
 
         for (g, gate) in gates.iter().enumerate() {
             if let Some(fault) = gate_fault(gate, inputs + g) {
-                return Err(HEADER + 4 * g + fault);
+                return Err(gate_place(g) + fault);
             }
         }
         let netlist = Netlist {
@@ -138,7 +233,7 @@ impl<'a> Netlist<'a> {
             outputs,
         };
         match outputs.iter().position(|&w| w as usize >= netlist.wires()) {
-            Some(o) => Err(HEADER + 4 * gates.len() + o),
+            Some(o) => Err(gate_place(gates.len()) + o),
             None => Ok(netlist),
         }
     }
@@ -155,7 +250,7 @@ impl<'a> Netlist<'a> {
 
 /// The first word at fault in the gate that gives `wire`.
 #[inline]
-pub(crate) fn gate_fault(&[kind, a, b, c]: &[u32; 4], wire: usize) -> Option<usize> {
+pub(crate) fn gate_fault(&[kind, a, b, c]: &Gate, wire: usize) -> Option<usize> {
     let Some(&used) = ARITY.get(kind as usize) else {
         return Some(0);
     };
@@ -172,10 +267,7 @@ pub(crate) fn gate_fault(&[kind, a, b, c]: &[u32; 4], wire: usize) -> Option<usi
     }
 }
 
-/// The length of the netlist that these words begin with.
-pub fn length(words: &[u32]) -> usize {
-    HEADER + 4 * words[1] as usize + words[2] as usize
-}
+// ---- the calls ----
 
 /// Whether `net` (list 1) keeps the netlist rules.
 pub fn check(net: &[u32]) -> Answer {
@@ -277,6 +369,16 @@ fn try_meter(net: &[u32], depths: &mut [u32], levels: &mut [Level]) -> Result<Me
     })
 }
 
+/// The same with room for whatever depth; the depth of every wire too.
+pub fn measure(net: &[u32]) -> (Metering, Vec<u32>) {
+    let counts = Counts::of(net);
+    let mut depths = vec![0; counts.wires()];
+    let mut levels = vec![Level::EMPTY; counts.gates + 1];
+    let metering = meter(net, &mut depths, &mut levels);
+    assert_eq!(metering.answer, Answer::DONE, "the netlist is sound");
+    (metering, depths)
+}
+
 /// Writes to the front of `out` (list 3) the netlist that runs `first` (1) and
 /// then `second` (2) on its outputs.
 pub fn glue(first: &[u32], second: &[u32], out: &mut [u32]) -> Answer {
@@ -286,31 +388,30 @@ pub fn glue(first: &[u32], second: &[u32], out: &mut [u32]) -> Answer {
 fn try_glue(first: &[u32], second: &[u32], out: &mut [u32]) -> Result<(), Answer> {
     let first = Netlist::lent(first, 1)?;
     let second = Netlist::lent(second, 2)?;
-    let gates = first.gates.len() + second.gates.len();
+    let counts = Counts {
+        inputs: first.inputs,
+        gates: first.gates.len() + second.gates.len(),
+        outputs: second.outputs.len(),
+    };
     let room = out.len();
     let out = out
-        .get_mut(..HEADER + 4 * gates + second.outputs.len())
+        .get_mut(..counts.words())
         .ok_or(Answer::too_short(3, room))?;
     if first.outputs.len() != second.inputs {
         return Err(Answer::COUNTS_DIFFER);
     }
-    if gates > MAX_GATES {
+    if counts.gates > MAX_GATES {
         return Err(Answer::TOO_MANY_GATES);
     }
 
-    let (counts, body) = out.split_at_mut(HEADER);
-    let (gate_words, outputs) = body.split_at_mut(4 * gates);
-    let (gate_words, _) = gate_words.as_chunks_mut::<4>();
-    let (front, back) = gate_words.split_at_mut(first.gates.len());
+    let (to_gates, outputs) = counts.lay_out(out);
+    let (front, back) = to_gates.split_at_mut(first.gates.len());
     // What a wire of the second is called in the result.
     let rename = |wire: u32| match first.outputs.get(wire as usize) {
         Some(&output) => output,
         None => wire - second.inputs as u32 + first.wires() as u32,
     };
 
-    counts[0] = first.inputs as u32;
-    counts[1] = gates as u32;
-    counts[2] = second.outputs.len() as u32;
     front.copy_from_slice(first.gates);
     for (to, &[kind, a, b, c]) in back.iter_mut().zip(second.gates) {
         let used = ARITY[kind as usize];

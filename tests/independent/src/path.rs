@@ -5,7 +5,8 @@
 
 use crate::cipher::{self, by_marks, Lists};
 use crate::emission;
-use crate::netlist::{self, length, Answer, Netlist, HEADER, MAX_GATES};
+use crate::key::deciphering_inputs;
+use crate::netlist::{self, length, words_for, Answer, Netlist, MAX_GATES};
 
 /// What the call reads: lists 1 to 5.
 #[derive(Clone, Copy)]
@@ -56,8 +57,8 @@ fn judge(number: u32, m: u32, read: &Read, rooms: &Rooms) -> Result<(), Answer> 
     let gates = deciphering + scoring.gates.len();
     let needs = [
         (rooms.enciphered.len(), m),
-        (rooms.deciphering.len(), HEADER + 4 * deciphering + m),
-        (rooms.glued.len(), HEADER + 4 * gates + outputs),
+        (rooms.deciphering.len(), words_for(deciphering, m)),
+        (rooms.glued.len(), words_for(gates, outputs)),
         (rooms.inputs.len(), inputs),
         (rooms.wires.len(), inputs + gates),
         (rooms.scores.len(), outputs),
@@ -109,7 +110,7 @@ fn write(instance: u32, m: u32, read: &Read, rooms: Rooms) {
     step(netlist::glue(deciphering, scoring, glued));
     let glued = &glued[..length(glued)];
 
-    let both = [key, &enciphered[..m as usize]].concat();
+    let both = deciphering_inputs(key, &enciphered[..m as usize]);
     let inputs = &mut inputs[..both.len()];
     inputs.copy_from_slice(&both);
     step(netlist::evaluate(glued, inputs, wires, scores));

@@ -2,10 +2,10 @@
 //! damaged ones.
 
 use crate::cases;
-use crate::cipher_cases::{self, List};
+use crate::cipher_cases::{self, sized};
 use crate::definitions::Condition;
 use crate::emission_cases::{self, Emission};
-use crate::netlist::{HEADER, MAX_GATES};
+use crate::netlist::{words_for, Counts, GATE_WORDS, MAX_GATES};
 use crate::path::Read;
 use crate::random::{fill, Random};
 
@@ -40,19 +40,19 @@ impl Path {
 
     /// How many gates the deciphering netlist has.
     pub fn deciphering_gates(&self) -> usize {
-        (self.emission.words() - HEADER - self.emission.call.m as usize) / 4
+        (self.emission.words() - words_for(0, self.emission.call.m as usize)) / GATE_WORDS
     }
 
     /// How much is written to that room.
     pub fn need(&self, room: u32) -> usize {
         let m = self.emission.call.m as usize;
-        let inputs = self.emission.call.key.len() + m;
-        let gates = || self.deciphering_gates() + self.scoring[1] as usize;
-        let outputs = || self.scoring[2] as usize;
+        let inputs = sized(self.emission.call.instance).key + m;
+        let gates = || self.deciphering_gates() + Counts::of(&self.scoring).gates;
+        let outputs = || Counts::of(&self.scoring).outputs;
         match room {
             6 => m,
             7 => self.emission.words(),
-            8 => HEADER + 4 * gates() + outputs(),
+            8 => words_for(gates(), outputs()),
             9 => inputs,
             10 => inputs + gates(),
             11 => outputs(),
@@ -119,30 +119,17 @@ pub enum Fault {
     Room(u32),
 }
 
-/// In the order in which they are judged.
-pub const FAULTS: [Fault; 21] = [
-    Fault::Cipher(cipher_cases::Fault::Instance),
-    Fault::Cipher(cipher_cases::Fault::Bits),
-    Fault::Cipher(cipher_cases::Fault::Length(List::Key)),
-    Fault::Cipher(cipher_cases::Fault::Length(List::Record)),
-    Fault::Cipher(cipher_cases::Fault::Length(List::Indices)),
-    Fault::Cipher(cipher_cases::Fault::Length(List::Whitening)),
-    Fault::Cipher(cipher_cases::Fault::NotBit(List::Key)),
-    Fault::Cipher(cipher_cases::Fault::NotBit(List::Record)),
-    Fault::Cipher(cipher_cases::Fault::NotBit(List::Whitening)),
-    Fault::Cipher(cipher_cases::Fault::Index),
-    Fault::Cipher(cipher_cases::Fault::Repeat),
-    Fault::Cipher(cipher_cases::Fault::Whitened),
-    Fault::Scoring,
-    Fault::Room(6),
-    Fault::Room(7),
-    Fault::Room(8),
-    Fault::Room(9),
-    Fault::Room(10),
-    Fault::Room(11),
-    Fault::Counts,
-    Fault::Gates,
-];
+/// All of them, in the order in which they are judged.
+pub fn faults() -> Vec<Fault> {
+    // The room for the enciphered record is judged with the other rooms.
+    let of_cipher = cipher_cases::FAULTS.into_iter();
+    let of_cipher = of_cipher.filter(|&fault| fault != cipher_cases::Fault::Room);
+    let mut faults: Vec<Fault> = of_cipher.map(Fault::Cipher).collect();
+    faults.push(Fault::Scoring);
+    faults.extend(ROOMS.map(Fault::Room));
+    faults.extend([Fault::Counts, Fault::Gates]);
+    faults
+}
 
 impl Fault {
     /// Whether that path can have it.
@@ -169,7 +156,7 @@ pub fn inflict(random: &mut Random, path: &mut Path, fault: Fault) -> Condition 
         },
         Fault::Counts => {
             let inputs = (m + random.pick(&[1, 2, 63, 64])) % 66 + 1;
-            let gates = path.scoring[1] as usize;
+            let gates = Counts::of(&path.scoring).gates;
             path.lend(random, cases::nots(inputs, gates));
             (10, 0, 0)
         }
@@ -179,12 +166,7 @@ pub fn inflict(random: &mut Random, path: &mut Path, fault: Fault) -> Condition 
             (11, 0, 0)
         }
         Fault::Room(room) => {
-            let need = path.need(room);
-            let places = match random.below(4) {
-                0 => 0,
-                1 => random.below(need),
-                _ => need - 1,
-            };
+            let places = random.fewer(path.need(room));
             path.shorten(room, places);
             (8, room, places)
         }

@@ -3,7 +3,7 @@
 #![forbid(unsafe_code)]
 
 use crate::emission;
-use crate::netlist::{self, Answer, Level, Metering, ARITY, HEADER};
+use crate::netlist::{self, Answer, Counts, Metering, ARITY};
 use std::fmt::Write;
 
 /// The kinds' names, by their codes.
@@ -12,6 +12,7 @@ pub const NAMES: [&str; 6] = ["ZERO", "ONE", "NOT", "XOR", "AND", "MUX"];
 pub const REFUSED: &str = "refused 13\n";
 
 /// What a call answers, with the text's length, 0 on a refusal.
+#[repr(C)]
 #[derive(Clone, Copy, Debug, PartialEq, Eq)]
 pub struct Printing {
     pub answer: Answer,
@@ -68,29 +69,32 @@ fn threshold(d: u32, n: u32) -> Option<String> {
     if emission::threshold(d, n, &mut words) != Answer::DONE {
         return None;
     }
-    let [inputs, gates, outputs] = [words[0], words[1], words[2]].map(|count| count as usize);
-    words.truncate(HEADER + 4 * gates + outputs);
-    let mut depths = vec![0; inputs + gates];
-    let mut levels = vec![Level::EMPTY; gates + 1];
+    let counts = Counts::of(&words);
+    words.truncate(counts.words());
+    let (metering, _) = netlist::measure(&words);
+    let Counts {
+        inputs,
+        gates,
+        outputs,
+    } = counts;
     let Metering {
         depth,
         multiplications,
         ..
-    } = netlist::meter(&words, &mut depths, &mut levels);
+    } = metering;
 
     let mut text = format!("T {d} {n}\n");
     let mut line = |line: std::fmt::Arguments| writeln!(text, "{line}").expect("there is room");
     line(format_args!(
         "in {inputs} gates {gates} out {outputs} depth {depth} mult {multiplications}"
     ));
-    let (gate_words, output_words) = words[HEADER..].split_at(4 * gates);
-    for (wire, gate) in (inputs..).zip(gate_words.chunks_exact(4)) {
+    for (wire, gate) in (inputs..).zip(netlist::gates(&words)) {
         let kind = gate[0] as usize;
         let used = gate[1..=ARITY[kind]].iter();
         let operands: String = used.map(|operand| format!(" {operand}")).collect();
         line(format_args!("{wire} {}{operands}", NAMES[kind]));
     }
-    for wire in output_words {
+    for wire in netlist::outputs(&words) {
         line(format_args!("out {wire}"));
     }
     Some(text)

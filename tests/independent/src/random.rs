@@ -42,6 +42,37 @@ impl Random {
         choices[self.below(choices.len())]
     }
 
+    /// A length near the needed one: exact, one short, one long, or any.
+    pub fn near(&mut self, needed: usize) -> usize {
+        match self.below(20) {
+            0..=8 => needed,
+            9 | 10 => needed + 1,
+            11 => needed + self.between(2, 40),
+            12..=16 => needed.saturating_sub(1),
+            17 => 0,
+            _ => self.between(0, needed),
+        }
+    }
+
+    /// A length below the needed one, which is not 0.
+    pub fn fewer(&mut self, needed: usize) -> usize {
+        match self.below(4) {
+            0 => 0,
+            1 => self.below(needed),
+            _ => needed - 1,
+        }
+    }
+
+    /// How many places more than it needs a list has.
+    pub fn spare(&mut self) -> usize {
+        self.pick(&[0, 0, 1, 7, 100])
+    }
+
+    /// A byte that is no bit.
+    pub fn no_bit(&mut self) -> u8 {
+        self.pick(&[2, 2, 3, 4, 128, 129, 254, 255])
+    }
+
     /// A place in `weights`, as likely as its weight.
     pub fn weighted(&mut self, weights: &[u32]) -> usize {
         let total: u32 = weights.iter().sum();
@@ -98,4 +129,28 @@ pub fn fill<T: Arbitrary>(random: &mut Random, length: usize) -> Vec<T> {
 
 pub fn bits(random: &mut Random, length: usize) -> Vec<u8> {
     (0..length).map(|_| (random.draw() >> 63) as u8).collect()
+}
+
+/// Bits of which that many in a hundred are 1.
+pub fn biased(random: &mut Random, length: usize, percent: usize) -> Vec<u8> {
+    (0..length)
+        .map(|_| u8::from(random.chance(percent)))
+        .collect()
+}
+
+/// Bits of which exactly that many are 1.
+pub fn of_weight(random: &mut Random, length: usize, weight: usize) -> Vec<u8> {
+    let mut bits = vec![0; length];
+    bits[..weight].fill(1);
+    for place in 0..length {
+        bits.swap(place, random.between(place, length - 1));
+    }
+    bits
+}
+
+/// All lists of that many bits.
+pub fn all_bits(length: usize) -> Vec<Vec<u8>> {
+    (0..1_u32 << length)
+        .map(|number| (0..length).map(|i| (number >> i & 1) as u8).collect())
+        .collect()
 }

@@ -3,169 +3,36 @@
 //! known beforehand, by hand or from the way they were made, are held to that
 //! too, and every result to the filters' definitions.
 
-use independent::cipher_cases::{self, Call, Choice, Fault, List, CHOICE_FAULTS, FAULTS};
-use independent::definitions::{self, Condition};
-use independent::lent::{show, Lent};
-use independent::netlist::Answer;
-use independent::random::{fill, seeded, Random};
-use independent::tally::{self, Tally};
-use independent::{choice, cipher, probe};
+use independent::both::cipher::{choose, Kind, KINDS};
+use independent::cipher_cases::{
+    self, lengths_near, no_indices, no_instances, no_records, Call, Choice, Fault, List,
+    CHOICE_FAULTS, FAULTS,
+};
+use independent::definitions::cipher::sizes_of;
+use independent::definitions::filter::degrees;
+use independent::definitions::least;
+use independent::key::lent_key;
+use independent::netlist::{refusal, Answer};
+use independent::probe;
+use independent::random::{fill, seeded};
+use independent::stack::on_stack;
+use independent::tally::{self, without_places, Tally};
+use independent::worked;
 use std::collections::{BTreeMap, BTreeSet};
 
 /// Random cases of each of the three cipher calls, and of the choice.
 const CASES: usize = 8_000;
 const CHOICES: usize = 20_000;
 
-fn refusal(number: u32, list: u32, place: usize) -> Answer {
-    Answer::new(number, list, place)
-}
-
-/// The answer to a call against which that holds, the least first.
-fn least(held: &BTreeSet<Condition>) -> Answer {
-    match held.first() {
-        Some(&(number, list, place)) => refusal(number, list, place),
-        None => Answer::DONE,
-    }
-}
-
-/// Enciphering and deciphering take the same lists.
-type WithRecord = fn(u32, u32, &[u8], &[u8], &[u32], &[u8], &mut [u8]) -> Answer;
-
-#[derive(Clone, Copy, Debug, PartialEq, Eq)]
-enum Kind {
-    Keystream,
-    Encipher,
-    Decipher,
-}
-
-const KINDS: [Kind; 3] = [Kind::Keystream, Kind::Encipher, Kind::Decipher];
-
-impl Kind {
-    fn has_record(self) -> bool {
-        self != Kind::Keystream
-    }
-
-    fn sound(self, random: &mut Random, instance: u32, m: usize) -> Call {
-        cipher_cases::sound(random, instance, m, self.has_record())
-    }
-
-    /// Hands the call to both programs. The answer, and what the result list
-    /// then holds.
-    fn hand(self, call: &Call) -> (Answer, Vec<u8>) {
-        let Call { instance, m, .. } = *call;
-        let record = call.record.as_deref().unwrap_or(&[]);
-        let case = || {
-            format!(
-                "{self:?} of instance {instance}, m {m}: key {}, record {}, indices {}, \
-                 whitening {}, room for {}",
-                show(&call.key),
-                show(record),
-                show(&call.indices),
-                show(&call.whitening),
-                call.result.len()
-            )
-        };
-        let (mut key, mut record) = (Lent::new(&call.key), Lent::new(record));
-        let mut indices = Lent::new(&call.indices);
-        let mut whitening = Lent::new(&call.whitening);
-        let mut result = Lent::new(&call.result);
-        let (library, rust) = match self {
-            Kind::Keystream => (
-                probe::keystream(
-                    instance,
-                    m,
-                    key.library(),
-                    indices.library(),
-                    whitening.library(),
-                    result.library(),
-                ),
-                cipher::keystream(
-                    instance,
-                    m,
-                    key.rust(),
-                    indices.rust(),
-                    whitening.rust(),
-                    result.rust(),
-                ),
-            ),
-            Kind::Encipher | Kind::Decipher => {
-                let programs: (WithRecord, WithRecord) = match self {
-                    Kind::Encipher => (probe::encipher, cipher::encipher),
-                    _ => (probe::decipher, cipher::decipher),
-                };
-                (
-                    (programs.0)(
-                        instance,
-                        m,
-                        key.library(),
-                        record.library(),
-                        indices.library(),
-                        whitening.library(),
-                        result.library(),
-                    ),
-                    (programs.1)(
-                        instance,
-                        m,
-                        key.rust(),
-                        record.rust(),
-                        indices.rust(),
-                        whitening.rust(),
-                        result.rust(),
-                    ),
-                )
-            }
-        };
-        assert_eq!(library, rust, "library, rust; {}", case());
-        let written = if rust == Answer::DONE { m as usize } else { 0 };
-        key.settle(0, "key bits", &case);
-        record.settle(0, "record bits", &case);
-        indices.settle(0, "indices", &case);
-        whitening.settle(0, "whitening bits", &case);
-        (rust, result.settle(written, "result", &case))
-    }
-
-    /// The bits that a sound call gives, which are the definitions'.
-    fn bits(self, call: &Call) -> Vec<u8> {
-        let (answer, mut result) = self.hand(call);
-        assert_eq!(answer, Answer::DONE);
-        result.truncate(call.m as usize);
-        assert_eq!(result, call.expected());
-        result
-    }
-}
-
-/// Hands the choice to both programs. The answer, and what the row then holds.
-fn choose(case: &Choice) -> (Answer, Vec<u32>) {
-    let describe = || {
-        format!(
-            "choice for instance {} from {}, room for {}",
-            case.instance,
-            show(&case.draws),
-            case.row.len()
-        )
-    };
-    let (mut draws, mut row) = (Lent::new(&case.draws), Lent::new(&case.row));
-    let library = probe::choose(case.instance, draws.library(), row.library());
-    let rust = choice::choose(case.instance, draws.rust(), row.rust());
-    assert_eq!(library, rust, "library, rust; {}", describe());
-    let written = if rust == Answer::DONE {
-        case.draws.len()
-    } else {
-        0
-    };
-    draws.settle(0, "draws", &describe);
-    (rust, row.settle(written, "row", &describe))
-}
-
 // ---- known values ----
 
-/// A call with the key bits in order, nothing whitened, and no record.
-fn in_order(instance: u32, key: Vec<u8>) -> Call {
-    let (_, row) = definitions::sizes(instance).expect("an instance");
+/// A call with these key bits in order, nothing whitened, and no record.
+fn in_order(instance: u32, key: &[u8]) -> Call {
+    let (_, row) = sizes_of(instance);
     Call {
         instance,
         m: 1,
-        key,
+        key: lent_key(key),
         record: None,
         indices: (0..row as u32).collect(),
         whitening: vec![0; row],
@@ -173,29 +40,17 @@ fn in_order(instance: u32, key: Vec<u8>) -> Call {
     }
 }
 
-/// Kreyvium with a key and an IV of zeros gives 26DCF1F4BC0F1922, the lowest
-/// bit of each byte first.
+/// Kreyvium with a key and an IV of zeros.
 #[test]
 fn published_vector() {
-    let published = [0x26, 0xDC, 0xF1, 0xF4, 0xBC, 0x0F, 0x19, 0x22];
-    let expected: Vec<u8> = (0..64)
-        .map(|bit| published[bit / 8] >> (bit % 8) & 1)
-        .collect();
+    let (zeros, expected) = ([0; 128], worked::keystream());
     for m in 1..=64 {
         for (kind, record) in [
             (Kind::Keystream, None),
             (Kind::Encipher, Some(vec![0; m])),
             (Kind::Decipher, Some(vec![1; m])),
         ] {
-            let call = Call {
-                instance: 6,
-                m: m as u32,
-                key: vec![0; 128],
-                record: record.clone(),
-                indices: vec![],
-                whitening: vec![0; 128],
-                result: vec![9; 70],
-            };
+            let call = Call::kreyvium(m, &zeros, record.clone(), &zeros);
             let of_record = record.map_or(0, |record| record[0]);
             for (bit, expected) in kind.bits(&call).into_iter().zip(&expected) {
                 assert_eq!(bit, expected ^ of_record);
@@ -211,15 +66,7 @@ fn kreyvium_single_bits() {
     for place in 0..=256 {
         let mut both = vec![0; 257];
         both[place] = 1;
-        let call = Call {
-            instance: 6,
-            m: 64,
-            key: both[..128].to_vec(),
-            record: None,
-            indices: vec![],
-            whitening: both[128..256].to_vec(),
-            result: vec![9; 64],
-        };
+        let call = Call::kreyvium(64, &both[..128], None, &both[128..256]);
         streams.insert(Kind::Keystream.bits(&call));
     }
     assert_eq!(streams.len(), 257);
@@ -230,17 +77,17 @@ fn kreyvium_single_bits() {
 #[test]
 fn each_monomial_alone() {
     for instance in 1..=4 {
-        let (key_bits, row) = definitions::sizes(instance).expect("an instance");
+        let (key_bits, row) = sizes_of(instance);
         let mut begin = 0;
-        for degree in definitions::degrees(instance) {
+        for degree in degrees(instance) {
             let mut key = vec![0; key_bits];
             key[begin..begin + degree].fill(1);
-            let mut call = in_order(instance, key);
-            assert_eq!(Kind::Keystream.bits(&call), [1]);
+            let bit = |key: &[u8]| Kind::Keystream.bits(&in_order(instance, key));
+            assert_eq!(bit(&key), [1]);
             for place in [begin, begin + degree - 1] {
-                call.key[place] = 0;
-                assert_eq!(Kind::Keystream.bits(&call), [0]);
-                call.key[place] = 1;
+                key[place] = 0;
+                assert_eq!(bit(&key), [0]);
+                key[place] = 1;
             }
             begin += degree;
         }
@@ -255,7 +102,7 @@ fn threshold_at_every_weight() {
     let mut random = seeded(201);
     for key_bit in [0, 1] {
         let mut call = Kind::Keystream.sound(&mut random, 5, 64);
-        call.key.fill(key_bit);
+        call.key = lent_key(&[key_bit; 16_384]);
         call.whitening.fill(key_bit);
         for weight in 0..64 {
             let row = &mut call.whitening[weight * 144..(weight + 1) * 144];
@@ -279,8 +126,9 @@ fn each_bit_has_its_row() {
     let mut random = seeded(202);
     for instance in 3..=5 {
         let mut call = Kind::Keystream.sound(&mut random, instance, 3);
-        let (_, row) = definitions::sizes(instance).expect("an instance");
-        call.key.fill(0);
+        let (key_bits, row) = sizes_of(instance);
+        let mut key = vec![0; key_bits];
+        call.key = lent_key(&key);
         call.whitening.fill(0);
         for (bit, place) in [(0, 0), (2, 80)] {
             call.whitening[bit * row + place] = 1;
@@ -288,8 +136,9 @@ fn each_bit_has_its_row() {
         assert_eq!(Kind::Keystream.bits(&call), [1, 0, 1]);
         call.whitening.fill(0);
         for (bit, place) in [(1, 3), (2, 7)] {
-            call.key[call.indices[bit * row + place] as usize] = 1;
+            key[call.indices[bit * row + place] as usize] = 1;
         }
+        call.key = lent_key(&key);
         Kind::Keystream.bits(&call);
     }
 }
@@ -355,10 +204,9 @@ fn each_fault_in_its_turn() {
                 kind.bits(&call);
                 for fault in FAULTS.into_iter().rev() {
                     if fault.suits(instance, kind.has_record()) {
-                        let (number, list, place) =
-                            cipher_cases::inflict(&mut random, &mut call, fault);
+                        let held = cipher_cases::inflict(&mut random, &mut call, fault);
                         let (answer, result) = kind.hand(&call);
-                        assert_eq!(answer, refusal(number, list, place), "{fault:?}");
+                        assert_eq!(answer, held.into(), "{fault:?}");
                         assert_eq!(result, call.result);
                     }
                 }
@@ -381,10 +229,9 @@ fn single_faults_at_known_places() {
                 for _ in 0..10 {
                     let m = random.between(1, 4);
                     let mut call = kind.sound(&mut random, instance, m);
-                    let (number, list, place) =
-                        cipher_cases::inflict(&mut random, &mut call, fault);
+                    let held = cipher_cases::inflict(&mut random, &mut call, fault);
                     let (answer, _) = kind.hand(&call);
-                    assert_eq!(answer, refusal(number, list, place), "{fault:?}");
+                    assert_eq!(answer, held.into(), "{fault:?}");
                     made += 1;
                 }
             }
@@ -397,9 +244,8 @@ fn single_faults_at_known_places() {
 #[test]
 fn numbers_out_of_range() {
     let mut random = seeded(207);
-    let far = [255, 256, 65_536, 65_537, 1 << 31, u32::MAX - 1, u32::MAX];
     for kind in KINDS {
-        for instance in [0, 7, 8].into_iter().chain(far) {
+        for instance in no_instances() {
             for sound in cipher_cases::instances() {
                 let mut call = kind.sound(&mut random, sound, 1);
                 call.instance = instance;
@@ -410,21 +256,12 @@ fn numbers_out_of_range() {
             }
         }
         for instance in cipher_cases::instances() {
-            let (_, row) = definitions::sizes(instance).expect("an instance");
-            for m in [0, 65, 66].into_iter().chain(far) {
+            for m in no_records() {
                 let mut call = kind.sound(&mut random, instance, 1);
                 call.m = m;
                 assert_eq!(kind.hand(&call).0, refusal(2, 0, 0));
-                // Lists as long as m asks for.
                 if m <= 66 {
-                    call.indices = cipher_cases::rows(&mut random, instance, m as usize);
-                    if instance != 6 {
-                        call.whitening = vec![0; m as usize * row];
-                    }
-                    if kind.has_record() {
-                        call.record = Some(vec![0; m as usize]);
-                    }
-                    call.result = vec![9; 70];
+                    call.suit(&mut random);
                     assert_eq!(kind.hand(&call).0, refusal(2, 0, 0));
                 }
             }
@@ -436,10 +273,6 @@ fn numbers_out_of_range() {
 #[test]
 fn every_list_length() {
     let mut random = seeded(208);
-    let near = |length: usize| {
-        let around = length.saturating_sub(2)..=length + 2;
-        around.chain([0, 1, 64, 128, 144, 530, 1_394, 4_096, 16_384, 65_536])
-    };
     for instance in cipher_cases::instances() {
         for kind in KINDS {
             let sound = kind.sound(&mut random, instance, 2);
@@ -453,7 +286,7 @@ fn every_list_length() {
                 if list == List::Record && !kind.has_record() {
                     continue;
                 }
-                for length in near(exact) {
+                for length in lengths_near(exact) {
                     let mut call = sound.clone();
                     match list {
                         List::Key => call.key.resize(length, 0),
@@ -527,19 +360,10 @@ fn every_place_of_a_bit() {
 fn every_place_of_an_index() {
     let mut random = seeded(210);
     for (instance, m) in [(1, 2), (5, 3)] {
-        let (key_bits, row) = definitions::sizes(instance).expect("an instance");
+        let (_, row) = sizes_of(instance);
         let sound = Kind::Keystream.sound(&mut random, instance, m);
         for place in 0..sound.indices.len() {
-            let key_bits = key_bits as u32;
-            let good = sound.indices[place];
-            for index in [
-                key_bits,
-                key_bits + 1,
-                1 << 14 | good,
-                1 << 16 | good,
-                1 << 31 | good,
-                u32::MAX,
-            ] {
+            for index in no_indices(instance, sound.indices[place]) {
                 let mut call = sound.clone();
                 call.indices[place] = index;
                 assert_eq!(Kind::Keystream.hand(&call).0, refusal(5, 2, place));
@@ -560,9 +384,9 @@ fn every_place_of_an_index() {
 #[test]
 fn repeats_by_hand() {
     for instance in 1..=5 {
-        let (key_bits, row) = definitions::sizes(instance).expect("an instance");
+        let (key_bits, row) = sizes_of(instance);
         let n = row as u32;
-        let mut call = in_order(instance, vec![0; key_bits]);
+        let mut call = in_order(instance, &vec![0; key_bits]);
         call.m = 3;
         call.result = vec![9; 3];
         call.whitening = vec![0; 3 * row];
@@ -616,19 +440,12 @@ fn repeats_by_hand() {
 
 // ---- at random ----
 
-/// The conditions without their places, each once.
-fn without_places(held: &BTreeSet<Condition>) -> Vec<tally::Condition> {
-    let mut conditions: Vec<_> = held.iter().map(|held| (held.0, held.1)).collect();
-    conditions.dedup();
-    conditions
-}
-
 /// What came up in the random calls of one kind.
 #[derive(Default)]
 struct Seen {
     tally: Tally,
     /// Answer numbers by instance.
-    numbers: BTreeMap<(u32, u32), usize>,
+    numbers: Tally<(u32, u32)>,
     /// Numbers of bits of calls that were done.
     lengths: BTreeSet<u32>,
     /// Places of single words beyond the first thousand, and last in the list.
@@ -659,9 +476,8 @@ fn random_calls(kind: Kind, seed: u64) -> Seen {
         };
         let (answer, result) = kind.hand(&call);
         assert_eq!(answer, least(&held));
-        seen.tally.count(answer);
         seen.tally.judge(&without_places(&held), answer);
-        *seen.numbers.entry((instance, answer.number)).or_default() += 1;
+        seen.numbers.see((instance, answer.number));
         match answer.number {
             0 => {
                 let m = call.m as usize;
@@ -688,26 +504,10 @@ fn random_calls(kind: Kind, seed: u64) -> Seen {
 }
 
 fn assert_all_seen(seen: &Seen, order: &[tally::Condition]) {
-    for &(number, list) in order {
-        seen.tally.assert_seen(number, list, CASES / 100);
-    }
+    seen.tally.assert_each(order.iter().copied(), CASES / 100);
     seen.tally.assert_seen(0, 0, CASES / 5);
     seen.tally.assert_order(order, CASES / 1_000);
-    for instance in cipher_cases::instances() {
-        for number in 0..=8 {
-            let can = match number {
-                5 | 6 => instance != 6,
-                7 => instance <= 2,
-                _ => true,
-            };
-            let count = seen.numbers.get(&(instance, number)).copied().unwrap_or(0);
-            let least = if can { CASES / 1_000 } else { 0 };
-            assert!(
-                count >= least,
-                "answer {number} to instance {instance} came up {count} times"
-            );
-        }
-    }
+    cipher_cases::assert_every_answer(&seen.numbers, CASES / 1_000);
     assert!(seen.lengths.iter().copied().eq(1..=64));
     assert!(seen.far > CASES / 50, "only {} far places", seen.far);
     assert!(seen.last > CASES / 100, "only {} last places", seen.last);
@@ -781,7 +581,7 @@ fn lists_of_another_instance() {
 #[test]
 fn choice_at_its_ends() {
     for instance in 1..=5 {
-        let (key_bits, row) = definitions::sizes(instance).expect("an instance");
+        let (key_bits, row) = sizes_of(instance);
         let mut case = Choice {
             instance,
             draws: vec![0; row],
@@ -833,7 +633,6 @@ fn random_choices() {
         }
         let (answer, row) = choose(&case);
         assert_eq!(answer, least(&held));
-        tally.count(answer);
         tally.judge(&without_places(&held), answer);
         far += usize::from(answer.number == 14 && answer.place > 500);
         if answer == Answer::DONE {
@@ -842,9 +641,7 @@ fn random_choices() {
         }
     }
     let order = [(1, 0), (3, 1), (8, 2), (14, 1)];
-    for (number, list) in order {
-        tally.assert_seen(number, list, CHOICES / 20);
-    }
+    tally.assert_each(order, CHOICES / 20);
     tally.assert_seen(0, 0, CHOICES / 5);
     tally.assert_order(&order, CHOICES / 100);
     assert!(far > CHOICES / 100, "only {far} draws far from the front");
@@ -858,9 +655,8 @@ fn single_faults_of_a_choice() {
         for instance in 1..=5 {
             for _ in 0..40 {
                 let mut case = cipher_cases::sound_choice(&mut random, instance);
-                let (number, list, place) =
-                    cipher_cases::inflict_choice(&mut random, &mut case, fault);
-                assert_eq!(choose(&case).0, refusal(number, list, place), "{fault:?}");
+                let held = cipher_cases::inflict_choice(&mut random, &mut case, fault);
+                assert_eq!(choose(&case).0, held.into(), "{fault:?}");
             }
         }
     }
@@ -902,23 +698,16 @@ fn small_stack() {
         let mut case = (instance <= 5).then(|| cipher_cases::sound_choice(&mut random, instance));
         let mut there = vec![9; 64];
         let mut back = vec![9; 64];
-        std::thread::scope(|scope| {
-            let work = || {
-                let (key, indices, whitening) = (&call.key, &call.indices, &call.whitening);
-                let answer =
-                    probe::encipher(instance, 64, key, record, indices, whitening, &mut there);
+        on_stack(STACK, || {
+            let (key, indices, whitening) = (&call.key, &call.indices, &call.whitening);
+            let answer = probe::encipher(instance, 64, key, record, indices, whitening, &mut there);
+            assert_eq!(answer, Answer::DONE);
+            let answer = probe::decipher(instance, 64, key, &there, indices, whitening, &mut back);
+            assert_eq!(answer, Answer::DONE);
+            if let Some(case) = &mut case {
+                let answer = probe::choose(instance, &case.draws, &mut case.row);
                 assert_eq!(answer, Answer::DONE);
-                let answer =
-                    probe::decipher(instance, 64, key, &there, indices, whitening, &mut back);
-                assert_eq!(answer, Answer::DONE);
-                if let Some(case) = &mut case {
-                    let answer = probe::choose(instance, &case.draws, &mut case.row);
-                    assert_eq!(answer, Answer::DONE);
-                }
-            };
-            let thread = std::thread::Builder::new().stack_size(STACK);
-            let thread = thread.spawn_scoped(scope, work).expect("a thread");
-            thread.join().expect("the calls end well");
+            }
         });
         assert_eq!(there, call.expected());
         assert_eq!(back, record);

@@ -6,53 +6,41 @@ use independent::choice::{self, choose};
 use independent::cipher::{
     self, by_marks, by_nested_loops, decipher, encipher, keystream, Instance, INSTANCES,
 };
-use independent::cipher_cases::{self, Call, CHOICE_FAULTS, FAULTS};
-use independent::definitions;
+use independent::cipher_cases::{self, by_hand, ByHand, Call, CHOICE_FAULTS, FAULTS};
+use independent::definitions::cipher::{sizes, sizes_of};
+use independent::definitions::filter::degrees;
+use independent::definitions::{self, least};
 use independent::filter;
-use independent::kreyvium::{self, by_recurrences, by_rounds, first_bits, Rounds};
-use independent::netlist::Answer;
-use independent::random::{bits, seeded, Random};
+use independent::key::lent_key;
+use independent::kreyvium::{self, by_recurrences, by_rounds, first_bits, pack, Rounds};
+use independent::netlist::{refusal, Answer};
+use independent::random::{biased, bits, of_weight, seeded, Random};
 use independent::tally::Tally;
-
-fn refusal(number: u32, list: u32, place: usize) -> Answer {
-    Answer::new(number, list, place)
-}
-
-/// Bits in hexadecimal, eight to a byte, the lowest first.
-fn hexadecimal(bits: &[u8]) -> String {
-    bits.chunks(8)
-        .map(|eight| eight.iter().rev().fold(0, |byte, &bit| 2 * byte + bit))
-        .map(|byte| format!("{byte:02X}"))
-        .collect()
-}
+use independent::worked;
 
 /// Evenly or mostly ones: long products of even bits are nearly always 0.
 fn variables(random: &mut Random, length: usize) -> Vec<u8> {
     let percent = random.pick(&[50, 80, 95, 99]);
-    (0..length)
-        .map(|_| u8::from(random.chance(percent)))
-        .collect()
+    biased(random, length, percent)
 }
 
 // ---- Kreyvium ----
 
-/// The keystream for a key and an IV of zeros.
-const ZEROS: &str = "26DCF1F4BC0F1922";
-
 #[test]
 fn published_vector() {
     let zeros = [0; 128];
-    assert_eq!(hexadecimal(&first_bits(&zeros, &zeros)), ZEROS);
+    let published = worked::keystream();
+    assert_eq!(first_bits(pack(&zeros), pack(&zeros)), published);
     let mut stream = [9; 64];
     by_rounds(&zeros, &zeros, &mut stream);
-    assert_eq!(hexadecimal(&stream), ZEROS);
+    assert_eq!(stream, published);
     let mut stream = [9; 64];
     by_recurrences(&zeros, &zeros, &mut stream);
-    assert_eq!(hexadecimal(&stream), ZEROS);
+    assert_eq!(stream, published);
     let mut stream = [9; 64];
-    let answer = keystream(6, 64, &zeros, &[], &zeros, &mut stream);
+    let answer = keystream(6, 64, &lent_key(&zeros), &[], &zeros, &mut stream);
     assert_eq!(answer, Answer::DONE);
-    assert_eq!(hexadecimal(&stream), ZEROS);
+    assert_eq!(stream, published);
 }
 
 fn all_three_ways(key: &[u8; 128], iv: &[u8; 128], blocks: usize) -> Vec<u8> {
@@ -71,7 +59,7 @@ fn all_three_ways(key: &[u8; 128], iv: &[u8; 128], blocks: usize) -> Vec<u8> {
     other.fill(9);
     by_recurrences(key, iv, &mut other);
     assert_eq!(stream, other);
-    assert_eq!(stream[..64], first_bits(key, iv));
+    assert_eq!(stream[..64], first_bits(pack(key), pack(iv)));
     stream
 }
 
@@ -107,30 +95,25 @@ fn kreyvium_single_bits() {
 
 #[test]
 fn thresholds_by_hand() {
-    for (x, d, value) in [
-        (&[0, 1, 1][..], 2, 1),
-        (&[1, 0, 0], 2, 0),
-        (&[1, 1, 1], 3, 1),
-        (&[1, 1, 0], 3, 0),
-        (&[1], 1, 1),
-        (&[0], 1, 0),
-        (&[1, 1, 1], 4, 0),
-    ] {
-        assert_eq!(definitions::threshold(x, d), value);
+    for (x, d, value) in worked::THRESHOLDS {
+        assert_eq!(definitions::filter::threshold(x, d), value);
         assert_eq!(filter::threshold(x, d), value);
     }
     // 2 is a power of 2, and 3 is 2 * 2 - 1.
-    assert_eq!(definitions::symmetric(&[0, 1, 1], 2), 1);
-    assert_eq!(definitions::symmetric(&[1, 0, 0], 2), 0);
+    assert_eq!(definitions::filter::symmetric(&[0, 1, 1], 2), 1);
+    assert_eq!(definitions::filter::symmetric(&[1, 0, 0], 2), 0);
     // Two variables and a threshold of 2 on three.
-    assert_eq!(definitions::xor_threshold(&[1, 0, 0, 1, 1], 2, 2), 0);
+    assert_eq!(
+        definitions::filter::xor_threshold(&[1, 0, 0, 1, 1], 2, 2),
+        0
+    );
 }
 
 #[test]
 fn monomials_by_hand() {
     // One of degree 1 and one of degree 2.
-    assert_eq!(definitions::direct_sum(&[1, 1, 1], &[1, 1]), 0);
-    assert_eq!(definitions::by_degrees(&[1, 1, 1], &[1, 2]), 0);
+    assert_eq!(definitions::filter::direct_sum(&[1, 1, 1], &[1, 1]), 0);
+    assert_eq!(definitions::filter::by_degrees(&[1, 1, 1], &[1, 2]), 0);
     assert_eq!(
         filter::monomials::<1>(&[1]) ^ filter::monomials::<2>(&[1, 1]),
         0
@@ -142,8 +125,8 @@ fn monomials_by_hand() {
         ([1, 1, 1], 0),
         ([0, 0, 1], 0),
     ] {
-        assert_eq!(definitions::triangular(&x, 2), value);
-        assert_eq!(definitions::by_degrees(&x, &[1, 2]), value);
+        assert_eq!(definitions::filter::triangular(&x, 2), value);
+        assert_eq!(definitions::filter::by_degrees(&x, &[1, 2]), value);
         let rest = &mut &x[..];
         assert_eq!(filter::take::<1>(rest) ^ filter::take::<2>(rest), value);
         assert!(rest.is_empty());
@@ -156,8 +139,8 @@ fn triangle_of_degree_four() {
     for number in 0..1 << 10 {
         let x: [u8; 10] = std::array::from_fn(|j| (number >> j & 1) as u8);
         let value = x[0] ^ x[1] & x[2] ^ x[3] & x[4] & x[5] ^ x[6] & x[7] & x[8] & x[9];
-        assert_eq!(definitions::triangular(&x, 4), value);
-        assert_eq!(definitions::by_degrees(&x, &[1, 2, 3, 4]), value);
+        assert_eq!(definitions::filter::triangular(&x, 4), value);
+        assert_eq!(definitions::filter::by_degrees(&x, &[1, 2, 3, 4]), value);
         let rest = &mut &x[..];
         let taken = filter::take::<1>(rest) ^ filter::take::<2>(rest);
         let taken = taken ^ filter::take::<3>(rest) ^ filter::take::<4>(rest);
@@ -168,8 +151,9 @@ fn triangle_of_degree_four() {
 /// The whitening bit is taken by the place in the row, not by the key index.
 #[test]
 fn variables_by_hand() {
-    let (key, row, whitening) = ([0, 1, 1], [2, 0, 1], [1, 0, 0]);
-    assert_eq!(definitions::variables(&key, &row, &whitening), [0, 0, 1]);
+    let (key, row, whitening) = (lent_key(&[0, 1, 1]), [2, 0, 1], [1, 0, 0]);
+    let variables = definitions::cipher::variables(&key, &row, &whitening);
+    assert_eq!(variables, [0, 0, 1]);
     let mut x = [9; 3];
     cipher::variables(&key, &row, &whitening, &mut x);
     assert_eq!(x, [0, 0, 1]);
@@ -181,10 +165,10 @@ fn triangles_of_the_filters() {
     for _ in 0..2_000 {
         let x = variables(&mut random, 200);
         let mut rest = &x[..];
-        let value = definitions::triangular(&x, 9);
+        let value = definitions::filter::triangular(&x, 9);
         assert_eq!(filter::take_triangle_9(&mut rest), value);
         assert_eq!(rest, &x[45..]);
-        let value = definitions::triangular(&x[45..], 16);
+        let value = definitions::filter::triangular(&x[45..], 16);
         assert_eq!(filter::take_triangle_16(&mut rest), value);
         assert_eq!(rest, &x[45 + 136..]);
     }
@@ -197,8 +181,8 @@ fn degrees_of_the_filters() {
     for (instance, multiplications, depth) in
         [(1, 352, 8), (2, 1_072, 15), (3, 864, 7), (4, 1_024, 15)]
     {
-        let degrees = definitions::degrees(instance);
-        let (_, row) = definitions::sizes(instance).expect("an instance");
+        let degrees = degrees(instance);
+        let (_, row) = sizes_of(instance);
         assert_eq!(degrees.iter().sum::<usize>(), row);
         let products: usize = degrees.iter().map(|degree| degree - 1).sum();
         assert_eq!(products, multiplications);
@@ -220,13 +204,13 @@ fn fast_filter(instance: u32, x: &[u8]) -> u8 {
 fn filters_three_ways() {
     let mut random = seeded(102);
     for instance in 1..=4 {
-        let degrees = definitions::degrees(instance);
-        let (_, row) = definitions::sizes(instance).expect("an instance");
+        let degrees = degrees(instance);
+        let (_, row) = sizes_of(instance);
         let mut ones = 0;
         for _ in 0..2_000 {
             let x = variables(&mut random, row);
-            let value = definitions::filter(instance, &x);
-            assert_eq!(definitions::by_degrees(&x, &degrees), value);
+            let value = definitions::filter::value(instance, &x);
+            assert_eq!(definitions::filter::by_degrees(&x, &degrees), value);
             assert_eq!(fast_filter(instance, &x), value);
             ones += usize::from(value);
         }
@@ -239,17 +223,17 @@ fn filters_three_ways() {
 #[test]
 fn each_monomial_alone() {
     for instance in 1..=4 {
-        let (_, row) = definitions::sizes(instance).expect("an instance");
+        let (_, row) = sizes_of(instance);
         let mut begin = 0;
-        for degree in definitions::degrees(instance) {
+        for degree in degrees(instance) {
             let mut x = vec![0; row];
             x[begin..begin + degree].fill(1);
             assert_eq!(fast_filter(instance, &x), 1);
-            assert_eq!(definitions::filter(instance, &x), 1);
+            assert_eq!(definitions::filter::value(instance, &x), 1);
             for place in begin..begin + degree {
                 x[place] = 0;
                 assert_eq!(fast_filter(instance, &x), 0);
-                assert_eq!(definitions::filter(instance, &x), 0);
+                assert_eq!(definitions::filter::value(instance, &x), 0);
                 x[place] = 1;
             }
             begin += degree;
@@ -263,19 +247,15 @@ fn threshold_at_every_weight() {
     let mut random = seeded(103);
     for weight in 0..=63 {
         for _ in 0..20 {
-            let mut counted = [0; 63];
-            counted[..weight].fill(1);
-            for place in 0..63 {
-                counted.swap(place, random.between(place, 62));
-            }
+            let counted = of_weight(&mut random, 63, weight);
             let reached = u8::from(weight >= 32);
-            assert_eq!(definitions::threshold(&counted, 32), reached);
-            assert_eq!(definitions::symmetric(&counted, 32), reached);
+            assert_eq!(definitions::filter::threshold(&counted, 32), reached);
+            assert_eq!(definitions::filter::symmetric(&counted, 32), reached);
             let summed = bits(&mut random, 81);
             let sum = summed.iter().sum::<u8>() % 2;
             let x = [&summed[..], &counted].concat();
             assert_eq!(fast_filter(5, &x), sum ^ reached);
-            assert_eq!(definitions::filter(5, &x), sum ^ reached);
+            assert_eq!(definitions::filter::value(5, &x), sum ^ reached);
         }
     }
 }
@@ -285,13 +265,12 @@ fn threshold_at_every_weight() {
 #[test]
 fn both_tables_of_instances() {
     for (instance, number) in INSTANCES.iter().zip(1..) {
-        let sizes = definitions::sizes(number);
-        assert_eq!(sizes, Some((instance.key, instance.row)));
+        assert_eq!(sizes(number), Some((instance.key, instance.row)));
         assert!(instance.key <= cipher::MAX_KEY && instance.row <= cipher::MAX_ROW);
     }
     for number in [0, 7, u32::MAX] {
         assert!(Instance::numbered(number).is_none());
-        assert_eq!(definitions::sizes(number), None);
+        assert_eq!(sizes(number), None);
     }
 }
 
@@ -352,19 +331,15 @@ fn deciphering_undoes_enciphering() {
 /// With every condition holding, each is given in its turn.
 #[test]
 fn order_by_hand() {
-    let row: Vec<u32> = (0..530).collect();
-    let zeros = vec![0; 530];
-    let mut damaged_row = row.clone();
-    damaged_row[7] = 3;
-    damaged_row[9] = 530;
-    let mut repeating = row.clone();
-    repeating[8] = 5;
-    repeating[7] = 6;
-    repeating[529] = 0;
-    let mut whitened = zeros.clone();
-    whitened[500] = 1;
-    let mut spoiled = whitened.clone();
-    spoiled[501] = 2;
+    let ByHand {
+        row,
+        beyond,
+        repeating,
+        zeros,
+        whitened,
+        spoiled,
+    } = by_hand();
+    let key = lent_key(&zeros);
     let call = |instance, m, key: &[u8], record: &[u8], row: &[u32], white: &[u8], room| {
         encipher(instance, m, key, record, row, white, &mut vec![9; room])
     };
@@ -380,51 +355,45 @@ fn order_by_hand() {
         refusal(3, 2, 2)
     );
     assert_eq!(call(1, 1, &long, &[2], &[530], &[2], 0), refusal(3, 3, 1));
+    assert_eq!(call(1, 1, &long, &[2], &beyond, &[2], 0), refusal(3, 4, 1));
     assert_eq!(
-        call(1, 1, &long, &[2], &damaged_row, &[2], 0),
-        refusal(3, 4, 1)
-    );
-    assert_eq!(
-        call(1, 1, &long, &[2], &damaged_row, &spoiled, 0),
+        call(1, 1, &long, &[2], &beyond, &spoiled, 0),
         refusal(4, 1, 0)
     );
     assert_eq!(
-        call(1, 1, &zeros, &[2], &damaged_row, &spoiled, 0),
+        call(1, 1, &key, &[2], &beyond, &spoiled, 0),
         refusal(4, 2, 0)
     );
     assert_eq!(
-        call(1, 1, &zeros, &[1], &damaged_row, &spoiled, 0),
+        call(1, 1, &key, &[1], &beyond, &spoiled, 0),
         refusal(4, 4, 501)
     );
     assert_eq!(
-        call(1, 1, &zeros, &[1], &damaged_row, &whitened, 0),
+        call(1, 1, &key, &[1], &beyond, &whitened, 0),
         refusal(5, 3, 9)
     );
     assert_eq!(
-        call(1, 1, &zeros, &[1], &repeating, &whitened, 0),
+        call(1, 1, &key, &[1], &repeating, &whitened, 0),
         refusal(6, 3, 7)
     );
     assert_eq!(
-        call(1, 1, &zeros, &[1], &row, &whitened, 0),
+        call(1, 1, &key, &[1], &row, &whitened, 0),
         refusal(7, 4, 500)
     );
-    assert_eq!(call(1, 1, &zeros, &[1], &row, &zeros, 0), refusal(8, 5, 0));
-    assert_eq!(call(1, 1, &zeros, &[1], &row, &zeros, 1), Answer::DONE);
+    assert_eq!(call(1, 1, &key, &[1], &row, &zeros, 0), refusal(8, 5, 0));
+    assert_eq!(call(1, 1, &key, &[1], &row, &zeros, 1), Answer::DONE);
     // Without a record the later lists are counted one lower.
     let stream = |key: &[u8], row: &[u32], white: &[u8], room| {
         keystream(1, 1, key, row, white, &mut vec![9; room])
     };
-    assert_eq!(stream(&zeros, &[530], &[2], 0), refusal(3, 2, 1));
-    assert_eq!(stream(&zeros, &damaged_row, &[2], 0), refusal(3, 3, 1));
-    assert_eq!(
-        stream(&zeros, &damaged_row, &spoiled, 0),
-        refusal(4, 3, 501)
-    );
-    assert_eq!(stream(&zeros, &damaged_row, &whitened, 0), refusal(5, 2, 9));
-    assert_eq!(stream(&zeros, &repeating, &whitened, 0), refusal(6, 2, 7));
-    assert_eq!(stream(&zeros, &row, &whitened, 0), refusal(7, 3, 500));
-    assert_eq!(stream(&zeros, &row, &zeros, 0), refusal(8, 4, 0));
-    assert_eq!(stream(&zeros, &row, &zeros, 1), Answer::DONE);
+    assert_eq!(stream(&key, &[530], &[2], 0), refusal(3, 2, 1));
+    assert_eq!(stream(&key, &beyond, &[2], 0), refusal(3, 3, 1));
+    assert_eq!(stream(&key, &beyond, &spoiled, 0), refusal(4, 3, 501));
+    assert_eq!(stream(&key, &beyond, &whitened, 0), refusal(5, 2, 9));
+    assert_eq!(stream(&key, &repeating, &whitened, 0), refusal(6, 2, 7));
+    assert_eq!(stream(&key, &row, &whitened, 0), refusal(7, 3, 500));
+    assert_eq!(stream(&key, &row, &zeros, 0), refusal(8, 4, 0));
+    assert_eq!(stream(&key, &row, &zeros, 1), Answer::DONE);
 }
 
 /// The earliest place that holds an index seen before in its row, and none
@@ -468,11 +437,10 @@ fn single_faults_at_known_places() {
                 for _ in 0..12 {
                     let m = random.between(1, 3);
                     let mut call = cipher_cases::sound(&mut random, instance, m, with_record);
-                    let (number, list, place) =
-                        cipher_cases::inflict(&mut random, &mut call, fault);
+                    let held = cipher_cases::inflict(&mut random, &mut call, fault);
                     let (answer, result) = run(&call);
-                    assert_eq!(answer, refusal(number, list, place), "{fault:?}");
-                    assert_eq!(call.conditions().first(), Some(&(number, list, place)));
+                    assert_eq!(answer, held.into(), "{fault:?}");
+                    assert_eq!(call.conditions().first(), Some(&held));
                     assert_eq!(result, call.result);
                 }
             }
@@ -498,12 +466,8 @@ fn damaged_calls() {
                 cipher_cases::wreck(&mut random, &mut call);
             }
         }
-        let expected = match call.conditions().first() {
-            Some(&(number, list, place)) => refusal(number, list, place),
-            None => Answer::DONE,
-        };
         let (answer, result) = run(&call);
-        assert_eq!(answer, expected, "{call:?}");
+        assert_eq!(answer, least(&call.conditions()), "{call:?}");
         if answer == Answer::DONE {
             let bits = call.expected();
             assert_eq!(result[..bits.len()], bits);
@@ -517,19 +481,17 @@ fn damaged_calls() {
         assert_eq!((by_loops, again), (answer, result));
         tally.count(answer);
     }
-    for (number, list) in [(0, 0), (1, 0), (2, 0), (3, 1), (4, 1), (6, 2), (6, 3)] {
-        tally.assert_seen(number, list, 50);
-    }
-    for (number, list) in [(3, 4), (4, 2), (4, 4), (5, 3), (7, 4), (8, 4), (8, 5)] {
-        tally.assert_seen(number, list, 20);
-    }
+    let often = [(0, 0), (1, 0), (2, 0), (3, 1), (4, 1), (6, 2), (6, 3)];
+    tally.assert_each(often, 50);
+    let less_often = [(3, 4), (4, 2), (4, 4), (5, 3), (7, 4), (8, 4), (8, 5)];
+    tally.assert_each(less_often, 20);
 }
 
 // ---- choice ----
 
 #[test]
 fn choice_by_hand() {
-    assert_eq!(definitions::choice(4, &[2, 2, 0]), [2, 3, 0]);
+    assert_eq!(definitions::choice::row(4, &[2, 2, 0]), [2, 3, 0]);
     let mut row = [9; 3];
     choice::pick::<4>(&[2, 2, 0], &mut row);
     assert_eq!(row, [2, 3, 0]);
@@ -573,13 +535,9 @@ fn choices_two_ways() {
             let count = random.pick(&[1, 2, 4]);
             cipher_cases::inflict_several_on_choice(&mut random, &mut case, count);
         }
-        let expected = match case.conditions().first() {
-            Some(&(number, list, place)) => refusal(number, list, place),
-            None => Answer::DONE,
-        };
         let mut row = case.row.clone();
         let answer = choose(case.instance, &case.draws, &mut row);
-        assert_eq!(answer, expected);
+        assert_eq!(answer, least(&case.conditions()));
         tally.count(answer);
         if answer != Answer::DONE {
             assert_eq!(row, case.row);
@@ -590,15 +548,13 @@ fn choices_two_ways() {
         assert_eq!(row[chosen.len()..], case.row[chosen.len()..]);
         assert_eq!(by_marks(&chosen, chosen.len()), None);
     }
-    for (number, list) in [(0, 0), (1, 0), (3, 1), (8, 2), (14, 1)] {
-        tally.assert_seen(number, list, 200);
-    }
+    tally.assert_each([(0, 0), (1, 0), (3, 1), (8, 2), (14, 1)], 200);
     for fault in CHOICE_FAULTS {
         for instance in 1..=5 {
             let mut case = cipher_cases::sound_choice(&mut random, instance);
-            let (number, list, place) = cipher_cases::inflict_choice(&mut random, &mut case, fault);
+            let held = cipher_cases::inflict_choice(&mut random, &mut case, fault);
             let answer = choose(case.instance, &case.draws, &mut case.row);
-            assert_eq!(answer, refusal(number, list, place), "{fault:?}");
+            assert_eq!(answer, held.into(), "{fault:?}");
         }
     }
 }

@@ -2,25 +2,25 @@
 //! damaged, and compares the packed answer and the lent lists. Both are held to
 //! the definitions.
 
-use independent::both::{hand_appending, hand_frames, hand_reading};
-use independent::definitions::{self, FrameConditions};
+use independent::both::frames::{hand_appending, hand_frames, hand_reading};
+use independent::definitions::frames::{check_conditions, frame, FrameConditions};
+use independent::definitions::least;
 use independent::frame_cases::{
-    self, iv_at, iv_bits, least, not_above, put_iv, sound_appending, sound_reading, Appending,
-    Reading, FILE_FAULTS, LISTS,
+    self, iv_at, iv_bits, not_above, put_iv, sound_appending, sound_reading, Appending, Reading,
+    FILE_FAULTS, LISTS,
 };
 use independent::frames::{FRAME, RECORD};
-use independent::netlist::Answer;
+use independent::key::lent_key;
+use independent::netlist::{refusal, Answer};
 use independent::random::{fill, seeded, Random};
+use independent::stack::on_stacks;
 use independent::tally::Tally;
+use independent::worked;
 use independent::{collector, daemon, sallowknot};
 use std::fmt::Debug;
 
 /// Random appendings, and random readings.
 const CASES: usize = 20_000;
-
-fn refusal(number: u32, list: u32, place: usize) -> Answer {
-    Answer::new(number, list, place)
-}
 
 /// The answer that is due, which is the packed one.
 fn due(packed: u64, held: &FrameConditions, case: &dyn Debug) -> Answer {
@@ -32,54 +32,54 @@ fn due(packed: u64, held: &FrameConditions, case: &dyn Debug) -> Answer {
 /// Hands an appending to both programs, to the file or after its last frame. The
 /// answer, and what the frame then holds.
 fn append(case: &Appending, last_alone: bool) -> (Answer, Vec<u8>) {
-    let (packed, frame) = if last_alone {
-        let (library, rust) = (sallowknot::frames_append_after, collector::append_after);
-        hand_appending(case, "a last frame", library, rust, 0)
+    let written = if last_alone {
+        let calls = [sallowknot::frames_append_after, collector::append_after];
+        hand_appending(case, "a last frame", calls, 0)
     } else {
-        let (library, rust) = (sallowknot::frames_append, collector::append);
-        hand_appending(case, "a file", library, rust, 0)
+        let calls = [sallowknot::frames_append, collector::append];
+        hand_appending(case, "a file", calls, 0)
     };
-    (due(packed, &case.conditions(last_alone), case), frame)
+    let answer = due(written.answer, &case.conditions(last_alone), case);
+    (answer, written.bytes)
 }
 
 /// Has both programs read the file and check it. The answer to the reading, and
 /// what the records then hold.
 fn read(case: &Reading) -> (Answer, Vec<u8>) {
-    let checked = hand_frames(&case.file, sallowknot::frames_check, collector::check);
-    due(checked, &definitions::check_conditions(1, &case.file), case);
-    let (library, rust) = (sallowknot::frames_read, collector::read);
-    let (packed, records) = hand_reading(case, library, rust, 0);
-    (due(packed, &case.conditions(), case), records)
+    let checked = hand_frames(&case.file, [sallowknot::frames_check, collector::check]);
+    due(checked, &check_conditions(1, &case.file), case);
+    let written = hand_reading(case, [sallowknot::frames_read, collector::read], 0);
+    (due(written.answer, &case.conditions(), case), written.bytes)
 }
 
 #[test]
 fn packed_answers() {
-    let zeros = [0; 128];
+    let (key, record) = (lent_key(&[0; 128]), [0; 64]);
     let mut frame = [9; FRAME];
     let append = |iv: u128, file: &[u8], frame: &mut [u8]| {
-        sallowknot::frames_append(&zeros, &zeros[..64], &iv_bits(iv), file, frame)
+        sallowknot::frames_append(&key, &record, &iv_bits(iv), file, frame)
     };
     assert_eq!(append(0, &[], &mut frame), 0);
-    let worked = *b"PT\0\0\0\0\0\0\0\0\0\0\0\0\0\0\0\0\x64\x3B\x8F\x2F\x3D\xF0\x98\x44";
+    let worked = worked::FRAME;
     assert_eq!(frame, worked);
     assert_eq!(append(0, &worked, &mut frame), 0x001A_0410);
     assert_eq!(append(1, &worked[..25], &mut frame), 0x0000_040F);
     assert_eq!(append(1, &worked, &mut frame[..25]), 0x0019_0508);
     let after = |iv: u128, last: &[u8], frame: &mut [u8]| {
-        sallowknot::frames_append_after(&zeros, &zeros[..64], &iv_bits(iv), last, frame)
+        sallowknot::frames_append_after(&key, &record, &iv_bits(iv), last, frame)
     };
     assert_eq!(after(1, &worked, &mut frame), 0);
     assert_eq!(after(0, &worked, &mut frame), 0x001A_0410);
     assert_eq!(after(1, &worked[..25], &mut frame), 0x0019_0403);
     let mut records = [9; 64];
-    assert_eq!(sallowknot::frames_read(&zeros, &worked, &mut records), 0);
-    assert_eq!(records, zeros[..64]);
-    let short = sallowknot::frames_read(&zeros, &worked, &mut records[..63]);
+    assert_eq!(sallowknot::frames_read(&key, &worked, &mut records), 0);
+    assert_eq!(records, record);
+    let short = sallowknot::frames_read(&key, &worked, &mut records[..63]);
     assert_eq!(short, 0x003F_0308);
     let twice = [worked, worked].concat();
     assert_eq!(sallowknot::frames_check(&twice), 0x001A_0110);
     assert_eq!(sallowknot::frames_check(&twice[..51]), 0x001A_010F);
-    let twice_read = sallowknot::frames_read(&zeros, &twice, &mut records);
+    let twice_read = sallowknot::frames_read(&key, &twice, &mut records);
     assert_eq!(twice_read, 0x001A_0210);
     assert_eq!(sallowknot::frames_check(&[]), 0);
     assert_eq!(sallowknot::frames_check(b"PT"), 0x0000_010F);
@@ -110,9 +110,9 @@ fn empty_lists() {
         records: vec![],
     };
     assert_eq!(read(&case).0, refusal(3, 1, 0));
-    case.key = vec![0; 128];
+    case.key = lent_key(&[0; 128]);
     assert_eq!(read(&case).0, Answer::DONE);
-    case.file = definitions::frame(&case.key, &[1; 64], &[1; 128]);
+    case.file = frame(&case.key, &[1; 64], &[1; 128]);
     assert_eq!(read(&case).0, refusal(8, 3, 0));
 }
 
@@ -126,20 +126,14 @@ fn growing_file() {
         let mut case = sound_appending(&mut random, 0);
         case.key.clone_from(&key);
         case.iv = iv_bits(iv);
-        let last = file[file.len().saturating_sub(FRAME)..].to_vec();
         case.file.clone_from(&file);
         let (answer, frame) = append(&case, false);
         assert_eq!(answer, Answer::DONE);
-        case.file = last;
-        assert_eq!(append(&case, true), (Answer::DONE, frame.clone()));
+        let after_last = append(&case.after_last(), true);
+        assert_eq!(after_last, (Answer::DONE, frame.clone()));
         file.extend(&frame[..FRAME]);
         records.extend(case.record);
-        let case = Reading {
-            key: key.clone(),
-            file: file.clone(),
-            records: vec![9; records.len()],
-        };
-        let (answer, read) = read(&case);
+        let (answer, read) = read(&Reading::exact(&key, &file));
         assert_eq!(answer, Answer::DONE);
         assert!(read == records);
     }
@@ -148,22 +142,17 @@ fn growing_file() {
 #[test]
 fn small_files() {
     let mut random = seeded(642);
-    let key = [1; 128];
+    let key = lent_key(&[1; 128]);
     let sound = frame_cases::file(&mut random, &[0xFE, 0xFF, 0x100]);
-    let of = |file: Vec<u8>| Reading {
-        key: key.to_vec(),
-        records: vec![9; RECORD * (file.len() / FRAME)],
-        file,
-    };
     for length in 0..=sound.len() {
-        read(&of(sound[..length].to_vec()));
+        read(&Reading::exact(&key, &sound[..length]));
     }
     let mut tally = Tally::default();
     for place in 0..sound.len() {
         for byte in 0..=255 {
             let mut file = sound.clone();
             file[place] = byte;
-            tally.count(read(&of(file)).0);
+            tally.count(read(&Reading::exact(&key, &file)).0);
         }
     }
     tally.assert_seen(0, 0, 6_000);
@@ -221,12 +210,9 @@ fn random_appendings() {
     }
     for tally in &tallies {
         tally.assert_seen(0, 0, CASES / 20);
-        for (number, list) in [(3, 1), (3, 2), (3, 3), (4, 1), (4, 2), (4, 3)] {
-            tally.assert_seen(number, list, CASES / 200);
-        }
-        for (number, list) in [(15, 4), (16, 4), (8, 5)] {
-            tally.assert_seen(number, list, CASES / 100);
-        }
+        let of_lists = [(3, 1), (3, 2), (3, 3), (4, 1), (4, 2), (4, 3)];
+        tally.assert_each(of_lists, CASES / 200);
+        tally.assert_each([(15, 4), (16, 4), (8, 5)], CASES / 100);
     }
     tallies[1].assert_seen(3, 4, CASES / 200);
 }
@@ -255,9 +241,7 @@ fn random_readings() {
         tally.count(read(&case).0);
     }
     tally.assert_seen(0, 0, CASES / 10);
-    for (number, list) in [(3, 1), (4, 1), (8, 3), (15, 2), (16, 2)] {
-        tally.assert_seen(number, list, CASES / 100);
-    }
+    tally.assert_each([(3, 1), (4, 1), (8, 3), (15, 2), (16, 2)], CASES / 100);
 }
 
 /// Places far beyond 16 bits.
@@ -289,33 +273,30 @@ fn from_many_threads() {
     let readings: Vec<Reading> = (0..8).map(|_| sound_reading(&mut random, 200)).collect();
     let appending = sound_appending(&mut random, 200);
     let frame = appending.expected();
-    std::thread::scope(|scope| {
-        for reading in &readings {
-            let (appending, frame) = (&appending, &frame);
-            let stale: Vec<u8> = fill(&mut random, 200 * RECORD);
-            let work = move || {
-                let mut expected = stale.clone();
-                collector::read(&reading.key, &reading.file, &mut expected);
-                for _ in 0..20 {
-                    let mut records = stale.clone();
-                    let answer = sallowknot::frames_read(&reading.key, &reading.file, &mut records);
-                    assert_eq!(answer, 0);
-                    assert!(records == expected);
-                    let mut written = [9; FRAME];
-                    let answer = sallowknot::frames_append(
-                        &appending.key,
-                        &appending.record,
-                        &appending.iv,
-                        &appending.file,
-                        &mut written,
-                    );
-                    assert_eq!(answer, 0);
-                    assert_eq!(written[..], frame[..]);
-                    assert_eq!(sallowknot::frames_check(&reading.file), 0);
-                }
-            };
-            let thread = std::thread::Builder::new().stack_size(STACK);
-            thread.spawn_scoped(scope, work).expect("a thread");
+    let parts = readings.iter().map(|reading| {
+        let (appending, frame) = (&appending, &frame);
+        let stale: Vec<u8> = fill(&mut random, 200 * RECORD);
+        move || {
+            let mut expected = stale.clone();
+            collector::read(&reading.key, &reading.file, &mut expected);
+            for _ in 0..20 {
+                let mut records = stale.clone();
+                let answer = sallowknot::frames_read(&reading.key, &reading.file, &mut records);
+                assert_eq!(answer, 0);
+                assert!(records == expected);
+                let mut written = [9; FRAME];
+                let answer = sallowknot::frames_append(
+                    &appending.key,
+                    &appending.record,
+                    &appending.iv,
+                    &appending.file,
+                    &mut written,
+                );
+                assert_eq!(answer, 0);
+                assert_eq!(written[..], frame[..]);
+                assert_eq!(sallowknot::frames_check(&reading.file), 0);
+            }
         }
     });
+    on_stacks(STACK, parts);
 }

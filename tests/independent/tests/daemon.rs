@@ -2,34 +2,26 @@
 //! damaged, and compares the packed answer and the lent lists. Both are held to
 //! the definitions.
 
-use independent::cases::{self, Shape};
+use independent::both::daemon::{check_file, encipher};
+use independent::cases::{self, LARGEST};
 use independent::cipher_cases::{self, Call, Fault, List};
-use independent::daemon::{packed, MOST_PLACE};
-use independent::definitions::{self, Condition, Stage};
+use independent::daemon::{packed, unpacked, MOST_PLACE};
+use independent::definitions::file::{bytes, conditions as file_conditions, Stage};
+use independent::definitions::{least, netlist, Condition};
+use independent::faults::{inflict_each, several};
 use independent::file_cases::{self, FAULTS as FILE_FAULTS};
-use independent::lent::{show, Lent};
-use independent::netlist::{Answer, MAX_GATES, MAX_INPUTS, MAX_OUTPUTS};
+use independent::key::lent_key;
+use independent::lent::show;
+use independent::netlist::{refusal, Answer};
 use independent::random::{bits, fill, seeded, Random};
-use independent::tally::{self, Tally};
+use independent::stack::on_stacks;
+use independent::tally::{self, without_places, Tally};
+use independent::worked;
 use independent::{daemon, sallowknot};
 use std::collections::BTreeSet;
 
 /// Random encipherings, and random checks of files.
 const CASES: usize = 40_000;
-
-fn refusal(number: u32, list: u32, place: usize) -> Answer {
-    Answer::new(number, list, place)
-}
-
-/// The answer that a packed one holds.
-fn unpacked(answer: u64) -> Answer {
-    let [number, list, place @ ..] = answer.to_le_bytes();
-    let place = place
-        .iter()
-        .rev()
-        .fold(0, |place, &byte| place << 8 | usize::from(byte));
-    refusal(number.into(), list.into(), place)
-}
 
 #[test]
 fn packing() {
@@ -69,46 +61,6 @@ fn conditions(call: &Call) -> BTreeSet<Condition> {
     call.conditions().into_iter().map(counted).collect()
 }
 
-fn least(held: &BTreeSet<Condition>) -> Answer {
-    match held.first() {
-        Some(&(number, list, place)) => refusal(number, list, place),
-        None => Answer::DONE,
-    }
-}
-
-/// Hands the call to both programs. The answer, and what the result then holds.
-fn encipher(call: &Call) -> (Answer, Vec<u8>) {
-    let m = call.m;
-    let record = call.record.as_deref().expect("a call with a record");
-    let case = || {
-        format!(
-            "enciphering of {m} bits: key {}, record {}, IV {}, room for {}",
-            show(&call.key),
-            show(record),
-            show(&call.whitening),
-            call.result.len()
-        )
-    };
-    let (mut key, mut record) = (Lent::new(&call.key), Lent::new(record));
-    let (mut iv, mut result) = (Lent::new(&call.whitening), Lent::new(&call.result));
-    let library = sallowknot::kreyvium_encipher(
-        m,
-        key.library(),
-        record.library(),
-        iv.library(),
-        result.library(),
-    );
-    let rust = daemon::kreyvium_encipher(m, key.rust(), record.rust(), iv.rust(), result.rust());
-    let answer = unpacked(rust);
-    assert_eq!(unpacked(library), answer, "library, rust; {}", case());
-    assert_eq!(library, rust, "library, rust; {}", case());
-    key.settle(0, "key bits", &case);
-    record.settle(0, "record bits", &case);
-    iv.settle(0, "IV bits", &case);
-    let written = if rust == 0 { m as usize } else { 0 };
-    (answer, result.settle(written, "result", &case))
-}
-
 /// The bits of a sound call, which are the definitions'.
 fn enciphered(call: &Call) -> Vec<u8> {
     let (answer, mut result) = encipher(call);
@@ -121,21 +73,9 @@ fn enciphered(call: &Call) -> Vec<u8> {
 /// Key and IV all zero.
 #[test]
 fn published_vector() {
-    let call = Call {
-        instance: 6,
-        m: 64,
-        key: vec![0; 128],
-        record: Some(vec![0; 64]),
-        indices: vec![],
-        whitening: vec![0; 128],
-        result: vec![9; 64],
-    };
-    let stream = enciphered(&call);
-    let bytes: Vec<u8> = stream
-        .chunks(8)
-        .map(|bits| (0..8).map(|i| bits[i] << i).sum())
-        .collect();
-    assert_eq!(bytes, [0x26, 0xDC, 0xF1, 0xF4, 0xBC, 0x0F, 0x19, 0x22]);
+    let zeros = [0; 128];
+    let call = Call::kreyvium(64, &zeros, Some(vec![0; 64]), &zeros);
+    assert_eq!(enciphered(&call), worked::keystream());
 }
 
 #[test]
@@ -274,17 +214,15 @@ fn each_fault_in_its_turn() {
         let m = random.between(1, 64);
         for fault in FAULTS {
             let mut call = sound(&mut random, m);
-            let (number, list, place) =
-                counted(cipher_cases::inflict(&mut random, &mut call, fault));
+            let held = counted(cipher_cases::inflict(&mut random, &mut call, fault));
             let (answer, result) = encipher(&call);
-            assert_eq!(answer, refusal(number, list, place), "{fault:?}");
+            assert_eq!(answer, held.into(), "{fault:?}");
             assert_eq!(result, call.result);
         }
         let mut call = sound(&mut random, m);
         for fault in FAULTS.into_iter().rev() {
-            let (number, list, place) =
-                counted(cipher_cases::inflict(&mut random, &mut call, fault));
-            assert_eq!(encipher(&call).0, refusal(number, list, place), "{fault:?}");
+            let held = counted(cipher_cases::inflict(&mut random, &mut call, fault));
+            assert_eq!(encipher(&call).0, held.into(), "{fault:?}");
         }
     }
 }
@@ -292,18 +230,11 @@ fn each_fault_in_its_turn() {
 /// Several faults in a sound call; all that then holds, also what would, were
 /// there such a number of bits.
 fn inflict_several(random: &mut Random, call: &mut Call, count: usize) -> BTreeSet<Condition> {
-    let mut chosen: Vec<Fault> = (0..count).map(|_| random.pick(&FAULTS)).collect();
-    chosen.sort();
-    chosen.dedup();
-    let without_bits = chosen.iter().filter(|&&fault| fault != Fault::Bits);
-    for &fault in without_bits.rev() {
-        cipher_cases::inflict(random, call, fault);
-    }
-    let mut held = conditions(call);
-    if chosen[0] == Fault::Bits {
-        held.insert(cipher_cases::inflict(random, call, Fault::Bits));
-    }
-    held
+    let faults = several(count, || random.pick(&FAULTS));
+    let hides = |fault| fault == Fault::Bits;
+    inflict_each(call, faults, hides, conditions, |call, fault| {
+        counted(cipher_cases::inflict(random, call, fault))
+    })
 }
 
 #[test]
@@ -334,15 +265,10 @@ fn random_encipherings() {
         if answer == Answer::DONE {
             assert_eq!(result[..call.m as usize], call.expected());
         }
-        let mut without_places: Vec<_> = held.iter().map(|held| (held.0, held.1)).collect();
-        without_places.dedup();
-        tally.count(answer);
-        tally.judge(&without_places, answer);
+        tally.judge(&without_places(&held), answer);
     }
     tally.assert_seen(0, 0, CASES / 5);
-    for (number, list) in ORDER {
-        tally.assert_seen(number, list, CASES / 100);
-    }
+    tally.assert_each(ORDER, CASES / 100);
     tally.assert_order(&ORDER, CASES / 1_000);
 }
 
@@ -351,34 +277,19 @@ fn random_encipherings() {
 /// Has both programs check the file: the answer is the definitions', and never
 /// that of too little room.
 fn check(source: &[u8]) -> Answer {
-    let case = || format!("check of the file {}", show(source));
-    let mut lent = Lent::new(source);
-    let library = sallowknot::check_file(lent.library());
-    let rust = daemon::check_file(lent.rust());
-    assert_eq!(
-        unpacked(library),
-        unpacked(rust),
-        "library, rust; {}",
-        case()
-    );
-    assert_eq!(library, rust, "library, rust; {}", case());
-    lent.settle(0, "bytes", &case);
-    let held = definitions::file_conditions(source, usize::MAX);
+    let held = file_conditions(source, usize::MAX);
     assert!(held.iter().all(|held| held.0 != Stage::Room));
-    let expected = match held.first() {
-        Some(&(_, (number, list, place))) => refusal(number, list, place),
-        None => Answer::DONE,
-    };
-    assert_eq!(unpacked(library), expected, "{}", case());
-    expected
+    let answer = check_file(source);
+    assert_eq!(answer, least(&held), "check of {}", show(source));
+    answer
 }
 
 #[test]
 fn small_files() {
     let mut done = 0;
-    let threshold = definitions::threshold_netlist(2, 3);
+    let threshold = netlist::threshold(2, 3);
     for net in [cases::pass_through(1), threshold, vec![0, 0, 0]] {
-        let source = definitions::file(&net);
+        let source = bytes(&net);
         assert_eq!(check(&source), Answer::DONE);
         for length in 0..source.len() {
             assert_eq!(check(&source[..length]).number, 12);
@@ -428,14 +339,7 @@ fn random_files() {
 #[test]
 fn largest_file() {
     let mut random = seeded(507);
-    let shape = Shape {
-        inputs: MAX_INPUTS,
-        gates: MAX_GATES,
-        outputs: MAX_OUTPUTS,
-        weights: cases::MIXED,
-        reach: cases::ANYWHERE,
-    };
-    let sound = file_cases::sound(&mut random, &shape);
+    let sound = file_cases::sound(&mut random, &LARGEST);
     assert_eq!(check(&sound.source), Answer::DONE);
     let length = sound.source.len();
     let mut longer = sound.source.clone();
@@ -448,11 +352,10 @@ fn largest_file() {
     for fault in FILE_FAULTS {
         let mut reading = sound.clone();
         let held = file_cases::inflict(&mut random, &mut reading, fault);
-        let (number, list, place) = held.expect("a place for every fault");
-        let expected = match number {
+        let expected = match held.expect("a place for every fault") {
             // There is no room to lack.
-            8 => Answer::DONE,
-            _ => refusal(number, list, place),
+            (8, ..) => Answer::DONE,
+            held => held.into(),
         };
         assert_eq!(check(&reading.source), expected, "{fault:?}");
     }
@@ -466,38 +369,24 @@ fn from_many_threads() {
     const STACK: usize = 256 * 1024;
     let mut random = seeded(508);
     let calls: Vec<Call> = (0..64).map(|_| sound(&mut random, 64)).collect();
-    let source = definitions::file(&definitions::threshold_netlist(32, 64));
-    std::thread::scope(|scope| {
-        for part in calls.chunks(8) {
-            let source = &source;
-            let work = move || {
-                for call in part.iter().cycle().take(2_000) {
-                    let record = call.record.as_deref().expect("a call with a record");
-                    let mut result = [9; 64];
-                    let answer = sallowknot::kreyvium_encipher(
-                        64,
-                        &call.key,
-                        record,
-                        &call.whitening,
-                        &mut result,
-                    );
-                    assert_eq!(answer, 0);
-                    let mut expected = [9; 64];
-                    daemon::kreyvium_encipher(
-                        64,
-                        &call.key,
-                        record,
-                        &call.whitening,
-                        &mut expected,
-                    );
-                    assert_eq!(result, expected);
-                }
-                assert_eq!(sallowknot::check_file(source), 0);
-            };
-            let thread = std::thread::Builder::new().stack_size(STACK);
-            thread.spawn_scoped(scope, work).expect("a thread");
+    let source = bytes(&netlist::threshold(32, 64));
+    let parts = calls.chunks(8).map(|part| {
+        let source = &source;
+        move || {
+            for call in part.iter().cycle().take(2_000) {
+                let record = call.record.as_deref().expect("a call with a record");
+                let (key, iv) = (&call.key, &call.whitening);
+                let mut result = [9; 64];
+                let answer = sallowknot::kreyvium_encipher(64, key, record, iv, &mut result);
+                assert_eq!(answer, 0);
+                let mut expected = [9; 64];
+                daemon::kreyvium_encipher(64, key, record, iv, &mut expected);
+                assert_eq!(result, expected);
+            }
+            assert_eq!(sallowknot::check_file(source), 0);
         }
     });
+    on_stacks(STACK, parts);
 }
 
 /// All lists empty: the number of bits is judged, then the key's length.
@@ -516,7 +405,7 @@ fn empty_lists() {
     for m in [1, 64] {
         let mut call = Call { m, ..call.clone() };
         assert_eq!(encipher(&call).0, refusal(3, 1, 0));
-        call.key = bits(&mut seeded(509), 128);
+        call.key = lent_key(&bits(&mut seeded(509), 128));
         assert_eq!(encipher(&call).0, refusal(3, 2, 0));
         call.record = Some(vec![0; m as usize]);
         assert_eq!(encipher(&call).0, refusal(3, 3, 0));

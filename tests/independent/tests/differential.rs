@@ -3,17 +3,19 @@
 //! known beforehand, by hand or from the way they were made, are held to that
 //! too.
 
-use independent::both::{check, evaluate, glue, glued, glued_length, meter, metered, run};
-use independent::cases::{self, Fault, Shape, FAULTS};
+use independent::both::netlist::{check, evaluate, glue, glued, glued_length, meter, metered, run};
+use independent::cases::{self, Fault, Shape, FAULTS, LARGEST};
 use independent::lent::show;
 use independent::netlist::{
-    self, Answer, Level, Metering, AND, HEADER, MAX_GATES, MAX_INPUTS, MAX_OUTPUTS, MUX, NOT, ONE,
-    XOR, ZERO,
+    self, gate_place, refusal, words_for, Answer, Counts, Level, Metering, AND, GATES_PLACE,
+    GATE_WORDS, HEADER_WORDS, INPUTS_PLACE, MAX_GATES, MAX_INPUTS, MAX_OUTPUTS, MUX, NOT, ONE,
+    OUTPUTS_PLACE, XOR, ZERO,
 };
 use independent::probe;
 use independent::random::{bits, fill, seeded, Random};
-use independent::tally::Tally;
-use std::collections::BTreeMap;
+use independent::stack::on_stack;
+use independent::tally::{holding, Tally};
+use independent::worked::{ONE_HOT, THRESHOLD};
 
 /// Random cases of each of the four calls.
 const CASES: usize = 250_000;
@@ -27,23 +29,8 @@ const fn level(ands: u32, muxes: u32) -> Level {
 
 // ---- by hand ----
 
-/// At least 2 of 3: NOT 0, MUX 1 0 3, AND 0 1, AND 4 2, XOR 6 5; output 7.
-const THRESHOLD: [u32; 24] = [
-    3, 5, 1, //
-    NOT, 0, 0, 0, //
-    MUX, 1, 0, 3, //
-    AND, 0, 1, 0, //
-    AND, 4, 2, 0, //
-    XOR, 6, 5, 0, //
-    7,
-];
-
 /// Inverts its only input.
 const INVERTER: [u32; 8] = [1, 1, 1, NOT, 0, 0, 0, 1];
-
-fn refusal(number: u32, list: u32, place: usize) -> Answer {
-    Answer::new(number, list, place)
-}
 
 #[test]
 fn threshold_two_of_three() {
@@ -92,19 +79,10 @@ fn threshold_two_of_three() {
 /// this fails on 1, 0.
 #[test]
 fn one_hot_of_two() {
-    let one_hot = [
-        2, 5, 3, //
-        NOT, 0, 0, 0, //
-        NOT, 1, 0, 0, //
-        AND, 2, 3, 0, //
-        MUX, 1, 0, 2, //
-        AND, 0, 1, 0, //
-        4, 5, 6,
-    ];
-    assert_eq!(run(&one_hot, &[0, 0]), [1, 0, 0]);
-    assert_eq!(run(&one_hot, &[1, 0]), [0, 1, 0]);
-    assert_eq!(run(&one_hot, &[0, 1]), [0, 1, 0]);
-    assert_eq!(run(&one_hot, &[1, 1]), [0, 0, 1]);
+    assert_eq!(run(&ONE_HOT, &[0, 0]), [1, 0, 0]);
+    assert_eq!(run(&ONE_HOT, &[1, 0]), [0, 1, 0]);
+    assert_eq!(run(&ONE_HOT, &[0, 1]), [0, 1, 0]);
+    assert_eq!(run(&ONE_HOT, &[1, 1]), [0, 0, 1]);
 }
 
 #[test]
@@ -391,9 +369,10 @@ fn glue_renames_the_second_inputs() {
     assert_eq!(glued(&sink, &source), [3, 1, 1, ONE, 0, 0, 0, 3]);
     // A threshold, inverted.
     let inverted = glued(&THRESHOLD, &INVERTER);
-    assert_eq!(inverted[..3], [3, 6, 1]);
-    assert_eq!(inverted[3..23], THRESHOLD[3..23]);
-    assert_eq!(inverted[23..], [NOT, 7, 0, 0, 8]);
+    let gates = HEADER_WORDS..gate_place(5);
+    assert_eq!(inverted[..HEADER_WORDS], [3, 6, 1]);
+    assert_eq!(inverted[gates.clone()], THRESHOLD[gates.clone()]);
+    assert_eq!(inverted[gates.end..], [NOT, 7, 0, 0, 8]);
     assert_eq!(run(&inverted, &[0, 1, 1]), [0]);
     assert_eq!(run(&inverted, &[1, 0, 0]), [1]);
 }
@@ -417,14 +396,14 @@ fn glue_order_by_hand() {
 
     // Too many gates: 262,144 and one more; room and the counts come first.
     let full = cases::nots(1, MAX_GATES);
-    let needed = 3 + 4 * 262_145 + 1;
+    let needed = words_for(262_145, 1);
     assert_eq!(
         answer(&full, &INVERTER, needed - 1),
         refusal(8, 3, needed - 1)
     );
     assert_eq!(answer(&full, &INVERTER, needed), refusal(11, 0, 0));
     assert_eq!(answer(&INVERTER, &full, needed), refusal(11, 0, 0));
-    let needed = 3 + 4 * 262_149 + 1;
+    let needed = words_for(262_149, 1);
     assert_eq!(
         answer(&full, &THRESHOLD, needed - 1),
         refusal(8, 3, needed - 1)
@@ -432,7 +411,7 @@ fn glue_order_by_hand() {
     assert_eq!(answer(&full, &THRESHOLD, needed), refusal(10, 0, 0));
     assert_eq!(answer(&THRESHOLD, &full, needed), refusal(11, 0, 0));
     let pass = cases::pass_through(1);
-    assert_eq!(answer(&full, &pass, 3 + 4 * 262_144 + 1), Answer::DONE);
+    assert_eq!(answer(&full, &pass, words_for(262_144, 1)), Answer::DONE);
     assert_eq!(glued(&pass, &full), full);
     assert_eq!(glued(&full, &pass), full);
 }
@@ -613,46 +592,31 @@ fn every_list_length() {
 
 /// How often each fault came up, by list.
 #[derive(Default)]
-struct Faults(BTreeMap<(u32, Fault), usize>);
+struct Faults(Tally<(u32, Fault)>);
 
 impl Faults {
     fn count(&mut self, netlists: &[&[u32]], answer: Answer) {
         if answer.number == 9 {
             let words = netlists[answer.list as usize - 1];
-            let fault = Fault::at(words, answer.place);
-            *self.0.entry((answer.list, fault)).or_default() += 1;
+            self.0.see((answer.list, Fault::at(words, answer.place)));
         }
     }
 
     fn assert_all(&self, list: u32, least: usize) {
-        for fault in FAULTS {
-            let seen = self.0.get(&(list, fault)).copied().unwrap_or(0);
-            assert!(
-                seen >= least,
-                "{fault:?} in list {list} came up {seen} times, not {least}"
-            );
-        }
+        self.0.assert_each(FAULTS.map(|fault| (list, fault)), least);
     }
 }
 
 /// A netlist, perhaps damaged, with what it needed while it was sound.
 struct Subject {
     words: Vec<u32>,
-    inputs: usize,
-    gates: usize,
-    outputs: usize,
+    counts: Counts,
     broken: bool,
-}
-
-impl Subject {
-    fn wires(&self) -> usize {
-        self.inputs + self.gates
-    }
 }
 
 fn subject(random: &mut Random, shape: &Shape, damage: usize) -> Subject {
     let mut words = cases::sound(random, shape);
-    let mut counts = [words[0], words[1], words[2]];
+    let mut counts = Counts::of(&words);
     if random.chance(damage) {
         if random.chance(75) {
             let count = random.pick(&[1, 1, 1, 2, 3, 5]);
@@ -669,27 +633,12 @@ fn subject(random: &mut Random, shape: &Shape, damage: usize) -> Subject {
     let broken = netlist::check(&words) != Answer::DONE;
     if !broken {
         // Wrecking may have made another sound netlist.
-        counts = [words[0], words[1], words[2]];
+        counts = Counts::of(&words);
     }
-    let [inputs, gates, outputs] = counts.map(|count| count as usize);
     Subject {
         words,
-        inputs,
-        gates,
-        outputs,
+        counts,
         broken,
-    }
-}
-
-/// A length near the needed one: exact, one short, one long, or any.
-fn near(random: &mut Random, needed: usize) -> usize {
-    match random.below(20) {
-        0..=8 => needed,
-        9 | 10 => needed + 1,
-        11 => needed + random.between(2, 40),
-        12..=16 => needed.saturating_sub(1),
-        17 => 0,
-        _ => random.between(0, needed),
     }
 }
 
@@ -723,9 +672,10 @@ fn random_evaluations() {
     for _ in 0..CASES {
         let shape = cases::small_shape(&mut random);
         let net = subject(&mut random, &shape, 35);
-        let mut length = net.inputs;
+        let counts = net.counts;
+        let mut length = counts.inputs;
         if random.chance(20) {
-            length = near(&mut random, net.inputs);
+            length = random.near(counts.inputs);
         }
         let mut inputs = bits(&mut random, length);
         let mut not_bits = false;
@@ -739,20 +689,15 @@ fn random_evaluations() {
                 }
             }
         }
-        let values = near(&mut random, net.wires());
-        let outputs = near(&mut random, net.outputs);
-        let mut held = Vec::new();
-        for (condition, holds) in [
+        let values = random.near(counts.wires());
+        let outputs = random.near(counts.outputs);
+        let held = holding([
             ((9, 1), net.broken),
-            ((3, 2), length != net.inputs),
+            ((3, 2), length != counts.inputs),
             ((4, 2), not_bits),
-            ((8, 3), values < net.wires()),
-            ((8, 4), outputs < net.outputs),
-        ] {
-            if holds {
-                held.push(condition);
-            }
-        }
+            ((8, 3), values < counts.wires()),
+            ((8, 4), outputs < counts.outputs),
+        ]);
         let values = fill(&mut random, values);
         let outputs = fill(&mut random, outputs);
         let result = evaluate(&net.words, &inputs, &values, &outputs);
@@ -760,14 +705,11 @@ fn random_evaluations() {
             let place = inputs.iter().position(|&byte| byte > 1);
             assert_eq!(Some(result.answer.place), place);
         }
-        tally.count(result.answer);
         faults.count(&[&net.words], result.answer);
         tally.judge(&held, result.answer);
     }
     let order = [(9, 1), (3, 2), (4, 2), (8, 3), (8, 4)];
-    for (number, list) in order {
-        tally.assert_seen(number, list, CASES / 100);
-    }
+    tally.assert_each(order, CASES / 100);
     tally.assert_seen(0, 0, CASES / 20);
     faults.assert_all(1, CASES / 1_000);
     tally.assert_order(&order, CASES / 1_000);
@@ -777,7 +719,7 @@ fn random_evaluations() {
 fn random_meterings() {
     let mut random = seeded(5);
     let (mut tally, mut faults) = (Tally::default(), Faults::default());
-    let mut levels_seen = BTreeMap::new();
+    let mut levels_seen = Tally::default();
     for _ in 0..CASES {
         let shape = cases::small_shape(&mut random);
         let net = subject(&mut random, &shape, 30);
@@ -786,18 +728,13 @@ fn random_meterings() {
         } else {
             levels_needed(&net.words)
         };
-        let depths = near(&mut random, net.wires());
-        let levels = near(&mut random, needed);
-        let mut held = Vec::new();
-        for (condition, holds) in [
+        let depths = random.near(net.counts.wires());
+        let levels = random.near(needed);
+        let held = holding([
             ((9, 1), net.broken),
-            ((8, 2), depths < net.wires()),
+            ((8, 2), depths < net.counts.wires()),
             ((8, 3), levels < needed),
-        ] {
-            if holds {
-                held.push(condition);
-            }
-        }
+        ]);
         let depths = fill(&mut random, depths);
         let levels: Vec<Level> = fill(&mut random, levels);
         let result = meter(&net.words, &depths, &levels);
@@ -809,30 +746,24 @@ fn random_meterings() {
             let counted = result.levels[..needed].iter();
             let counted = counted.map(|level| level.ands + level.muxes);
             assert_eq!(counted.sum::<u32>(), result.metering.multiplications);
-            *levels_seen.entry(needed.min(20)).or_insert(0) += 1;
+            levels_seen.see(needed.min(20));
         }
-        tally.count(answer);
         faults.count(&[&net.words], answer);
         tally.judge(&held, answer);
     }
     let order = [(9, 1), (8, 2), (8, 3)];
-    for (number, list) in order {
-        tally.assert_seen(number, list, CASES / 100);
-    }
+    tally.assert_each(order, CASES / 100);
     tally.assert_seen(0, 0, CASES / 20);
     faults.assert_all(1, CASES / 1_000);
     tally.assert_order(&order, CASES / 1_000);
-    for levels in 1..=20 {
-        let seen = levels_seen.get(&levels).copied().unwrap_or(0);
-        assert!(seen >= 10, "{levels} levels came up {seen} times");
-    }
+    levels_seen.assert_each(1..=20, 10);
 }
 
 /// Levels of a sound netlist, from a list of depths made here.
 fn levels_needed(words: &[u32]) -> usize {
-    let inputs = words[0] as usize;
+    let inputs = Counts::of(words).inputs;
     let mut depths = vec![0; inputs];
-    for gate in words[HEADER..].chunks_exact(4).take(words[1] as usize) {
+    for gate in netlist::gates(words) {
         let at = |operand: usize| depths[gate[operand] as usize];
         let depth = match gate[0] {
             ZERO | ONE => 0,
@@ -854,29 +785,25 @@ fn random_gluings() {
         let shape = cases::small_shape(&mut random);
         let first = subject(&mut random, &shape, 20);
         let mut shape = cases::small_shape(&mut random);
+        let outputs = first.counts.outputs;
         shape.inputs = match random.below(10) {
-            0 => first.outputs + 1,
-            1 => first.outputs.saturating_sub(1),
+            0 => outputs + 1,
+            1 => outputs.saturating_sub(1),
             2 => shape.inputs,
-            _ => first.outputs,
+            _ => outputs,
         };
         let second = subject(&mut random, &shape, 25);
-        let needed = HEADER + 4 * (first.gates + second.gates) + second.outputs;
-        let room = near(&mut random, needed);
-        let mut held = Vec::new();
-        for (condition, holds) in [
+        let gates = first.counts.gates + second.counts.gates;
+        let needed = words_for(gates, second.counts.outputs);
+        let room = random.near(needed);
+        let held = holding([
             ((9, 1), first.broken),
             ((9, 2), second.broken),
             ((8, 3), room < needed),
-            ((10, 0), first.outputs != second.inputs),
-        ] {
-            if holds {
-                held.push(condition);
-            }
-        }
+            ((10, 0), outputs != second.counts.inputs),
+        ]);
         let out = fill(&mut random, room);
         let result = glue(&first.words, &second.words, &out);
-        tally.count(result.answer);
         faults.count(&[&first.words, &second.words], result.answer);
         tally.judge(&held, result.answer);
         if result.answer == Answer::DONE {
@@ -884,9 +811,7 @@ fn random_gluings() {
         }
     }
     let order = [(9, 1), (9, 2), (8, 3), (10, 0)];
-    for (number, list) in order {
-        tally.assert_seen(number, list, CASES / 100);
-    }
+    tally.assert_each(order, CASES / 100);
     tally.assert_seen(0, 0, CASES / 20);
     faults.assert_all(1, CASES / 2_000);
     faults.assert_all(2, CASES / 2_000);
@@ -930,9 +855,9 @@ fn glued_netlists_answer_as_one_after_the_other() {
     for _ in 0..4_000 {
         let inputs = random.between(0, 12);
         let a = fitting(&mut random, inputs);
-        let b = fitting(&mut random, a[2] as usize);
+        let b = fitting(&mut random, Counts::of(&a).outputs);
         let both = glued(&a, &b);
-        inputs_alike += usize::from(a[0] == b[0] && a[0] > 0);
+        inputs_alike += usize::from(Counts::of(&b).inputs == inputs && inputs > 0);
 
         let input = bits(&mut random, inputs);
         assert_eq!(run(&both, &input), run(&b, &run(&a, &input)));
@@ -953,28 +878,16 @@ fn gluing_three_in_either_grouping() {
     for _ in 0..4_000 {
         let inputs = random.between(0, 12);
         let a = fitting(&mut random, inputs);
-        let b = fitting(&mut random, a[2] as usize);
-        let c = fitting(&mut random, b[2] as usize);
+        let outputs = Counts::of(&a).outputs;
+        let b = fitting(&mut random, outputs);
+        let c = fitting(&mut random, Counts::of(&b).outputs);
         assert_eq!(glued(&glued(&a, &b), &c), glued(&a, &glued(&b, &c)));
         assert_eq!(glued(&cases::pass_through(inputs), &a), a);
-        assert_eq!(glued(&a, &cases::pass_through(a[2] as usize)), a);
+        assert_eq!(glued(&a, &cases::pass_through(outputs)), a);
     }
 }
 
 // ---- at the limits ----
-
-fn largest(random: &mut Random, weights: [u32; 6]) -> Vec<u32> {
-    cases::sound(
-        random,
-        &Shape {
-            inputs: MAX_INPUTS,
-            gates: MAX_GATES,
-            outputs: MAX_OUTPUTS,
-            weights,
-            reach: cases::ANYWHERE,
-        },
-    )
-}
 
 #[test]
 fn largest_netlists() {
@@ -983,8 +896,8 @@ fn largest_netlists() {
     let stale_bytes = fill(&mut random, wires + 1);
     let stale_words: Vec<u32> = fill(&mut random, wires + 1);
     for weights in [cases::MIXED, cases::ARITHMETIC, cases::MULTIPLYING] {
-        let net = largest(&mut random, weights);
-        assert_eq!(net.len(), 3 + 4 * 262_144 + 4_096);
+        let net = cases::sound(&mut random, &Shape { weights, ..LARGEST });
+        assert_eq!(net.len(), 1_052_675);
         assert_eq!(check(&net), Answer::DONE);
 
         let inputs = bits(&mut random, MAX_INPUTS);
@@ -1054,7 +967,7 @@ fn deepest_netlist() {
 #[test]
 fn faults_in_the_largest_netlist() {
     let mut random = seeded(12);
-    let net = largest(&mut random, cases::MIXED);
+    let net = cases::sound(&mut random, &LARGEST);
     for fault in FAULTS {
         for _ in 0..3 {
             let mut words = net.clone();
@@ -1064,15 +977,15 @@ fn faults_in_the_largest_netlist() {
         }
     }
     let mut words = net.clone();
-    let last_gate = HEADER + 4 * (MAX_GATES - 1);
+    let last_gate = gate_place(MAX_GATES - 1);
     for (place, word) in [
         (net.len() - 1, (MAX_INPUTS + MAX_GATES) as u32),
-        (last_gate + 4, u32::MAX),
+        (last_gate + GATE_WORDS, u32::MAX),
         (last_gate, 6),
-        (HEADER, u32::MAX),
-        (2, MAX_OUTPUTS as u32 + 1),
-        (1, MAX_GATES as u32 + 1),
-        (0, MAX_INPUTS as u32 + 1),
+        (gate_place(0), u32::MAX),
+        (OUTPUTS_PLACE, MAX_OUTPUTS as u32 + 1),
+        (GATES_PLACE, MAX_GATES as u32 + 1),
+        (INPUTS_PLACE, MAX_INPUTS as u32 + 1),
     ] {
         // Each goes in before the ones already there.
         words[place] = word;
@@ -1091,7 +1004,7 @@ fn faults_in_the_largest_netlist() {
 fn gluing_at_the_limit_of_gates() {
     let mut random = seeded(13);
     let mut tally = Tally::default();
-    let most = HEADER + 4 * 2 * MAX_GATES + MAX_OUTPUTS;
+    let most = words_for(2 * MAX_GATES, MAX_OUTPUTS);
     let stale: Vec<u32> = fill(&mut random, most + 1);
     let half = MAX_GATES / 2;
     for (first_gates, second_gates) in [
@@ -1111,9 +1024,7 @@ fn gluing_at_the_limit_of_gates() {
             let first = Shape {
                 inputs: MAX_OUTPUTS,
                 gates: first_gates,
-                outputs: MAX_OUTPUTS,
-                weights: cases::MIXED,
-                reach: cases::ANYWHERE,
+                ..LARGEST
             };
             let second = Shape {
                 inputs: MAX_OUTPUTS - usize::from(!alike),
@@ -1125,18 +1036,12 @@ fn gluing_at_the_limit_of_gates() {
             let second = cases::sound(&mut random, &second);
             let needed = glued_length(&first, &second);
             for room in [needed - 1, needed, needed + 1] {
-                let mut held = Vec::new();
-                for (condition, holds) in [
+                let held = holding([
                     ((8, 3), room < needed),
                     ((10, 0), !alike),
                     ((11, 0), first_gates + second_gates > MAX_GATES),
-                ] {
-                    if holds {
-                        held.push(condition);
-                    }
-                }
+                ]);
                 let result = glue(&first, &second, &stale[..room]);
-                tally.count(result.answer);
                 tally.judge(&held, result.answer);
                 if result.answer == Answer::DONE {
                     assert_eq!(probe::check(&result.out[..needed]), Answer::DONE);
@@ -1145,9 +1050,7 @@ fn gluing_at_the_limit_of_gates() {
         }
     }
     let order = [(8, 3), (10, 0), (11, 0)];
-    for (number, list) in order {
-        tally.assert_seen(number, list, 12);
-    }
+    tally.assert_each(order, 12);
     tally.assert_seen(0, 0, 10);
     tally.assert_order(&order, 6);
 }
@@ -1158,7 +1061,7 @@ fn small_stack() {
     const STACK: usize = 512 * 1024;
     let mut random = seeded(14);
     let wires = MAX_INPUTS + MAX_GATES;
-    let net = largest(&mut random, cases::MIXED);
+    let net = cases::sound(&mut random, &LARGEST);
     let chain = cases::chain(MAX_INPUTS, MAX_GATES);
     let inputs = bits(&mut random, MAX_INPUTS);
     let first = cases::nots(MAX_INPUTS, MAX_GATES / 2);
@@ -1168,21 +1071,16 @@ fn small_stack() {
     let mut depths = vec![9; wires];
     let mut levels = vec![STALE; MAX_GATES + 1];
     let mut out = vec![9; glued_length(&first, &second)];
-    std::thread::scope(|scope| {
-        let call = || {
-            assert_eq!(probe::check(&net), Answer::DONE);
-            assert_eq!(probe::check(&chain), Answer::DONE);
-            let answer = probe::evaluate(&net, &inputs, &mut values, &mut outputs);
-            assert_eq!(answer, Answer::DONE);
-            let metering = probe::meter(&chain, &mut depths, &mut levels);
-            assert_eq!(metering.answer, Answer::DONE);
-            assert_eq!(metering.depth, 262_144);
-            let answer = probe::glue(&first, &second, &mut out);
-            assert_eq!(answer, Answer::DONE);
-        };
-        let thread = std::thread::Builder::new().stack_size(STACK);
-        let thread = thread.spawn_scoped(scope, call).expect("a thread");
-        thread.join().expect("the calls end well");
+    on_stack(STACK, || {
+        assert_eq!(probe::check(&net), Answer::DONE);
+        assert_eq!(probe::check(&chain), Answer::DONE);
+        let answer = probe::evaluate(&net, &inputs, &mut values, &mut outputs);
+        assert_eq!(answer, Answer::DONE);
+        let metering = probe::meter(&chain, &mut depths, &mut levels);
+        assert_eq!(metering.answer, Answer::DONE);
+        assert_eq!(metering.depth, 262_144);
+        let answer = probe::glue(&first, &second, &mut out);
+        assert_eq!(answer, Answer::DONE);
     });
     let mut rust_values = vec![9; wires];
     let mut rust_outputs = vec![9; MAX_OUTPUTS];

@@ -3,124 +3,29 @@
 //! are then checked, metered, evaluated and glued by both programs, and held to
 //! their definitions and to what they have to compute.
 
-use independent::both::{check, glue, glued, glued_length, metered, run};
+use independent::both::emission::{decipher, one_hot, threshold, Emitted};
+use independent::both::netlist::{check, glue, glued, glued_length, metered, run};
 use independent::cases;
-use independent::cipher_cases::{self, Fault, List};
-use independent::definitions::{self, Condition};
-use independent::emission::Size;
+use independent::cipher_cases::{
+    self, lengths_near, no_indices, no_instances, no_records, sized, Fault, List,
+};
+use independent::definitions::cipher::sizes_of;
+use independent::definitions::filter::weight;
+use independent::definitions::{self, least};
 use independent::emission_cases::{self, Emission, FAULTS};
-use independent::lent::{show, Lent};
-use independent::netlist::{length, Answer, Metering, AND, HEADER, MAX_GATES, MUX, NOT, XOR};
-use independent::random::{bits, fill, seeded, Random};
-use independent::tally::{self, Tally};
-use independent::{emission, probe};
-use std::collections::{BTreeMap, BTreeSet};
+use independent::key::{deciphering_inputs, lent_key};
+use independent::netlist::{
+    length, refusal, words_for, Answer, Counts, Metering, HEADER_WORDS, MAX_GATES,
+};
+use independent::probe;
+use independent::random::{all_bits, biased, bits, fill, of_weight, seeded, Random};
+use independent::stack::on_stack;
+use independent::tally::{self, without_places, Tally};
+use independent::worked;
+use std::collections::BTreeSet;
 
 /// Random emissions of deciphering netlists.
 const CASES: usize = 6_000;
-
-fn refusal(number: u32, list: u32, place: usize) -> Answer {
-    Answer::new(number, list, place)
-}
-
-/// The answer to an emission against which that holds, the least first.
-fn least(held: &BTreeSet<Condition>) -> Answer {
-    match held.first() {
-        Some(&(number, list, place)) => refusal(number, list, place),
-        None => Answer::DONE,
-    }
-}
-
-/// An answer, and what the result list then holds.
-type Emitted = (Answer, Vec<u32>);
-
-/// Has both programs answer to the same room.
-fn both(
-    room: &[u32],
-    case: &dyn Fn() -> String,
-    library: impl FnOnce(&mut [u32]) -> Answer,
-    rust: impl FnOnce(&mut [u32]) -> Answer,
-) -> Emitted {
-    let mut result = Lent::new(room);
-    let library = library(result.library());
-    let rust = rust(result.rust());
-    assert_eq!(library, rust, "library, rust; {}", case());
-    let written = match rust {
-        Answer::DONE => length(result.rust()),
-        _ => 0,
-    };
-    (rust, result.settle(written, "result", case))
-}
-
-fn one_hot(n: u32, room: &[u32]) -> Emitted {
-    both(
-        room,
-        &|| format!("one-hot of {n}, {} words of room", room.len()),
-        |result| probe::emit_one_hot(n, result),
-        |result| emission::one_hot(n, result),
-    )
-}
-
-fn threshold(d: u32, n: u32, room: &[u32]) -> Emitted {
-    both(
-        room,
-        &|| format!("threshold {d} of {n}, {} words of room", room.len()),
-        |result| probe::emit_threshold(d, n, result),
-        |result| emission::threshold(d, n, result),
-    )
-}
-
-fn decipher(emission: &Emission) -> Emitted {
-    let call = &emission.call;
-    let (instance, m) = (call.instance, call.m);
-    let case = || {
-        format!(
-            "emission for instance {instance}, m {m}: indices {}, whitening {}, {} words of room",
-            show(&call.indices),
-            show(&call.whitening),
-            emission.result.len()
-        )
-    };
-    let mut indices = Lent::new(&call.indices);
-    let mut whitening = Lent::new(&call.whitening);
-    let (emitted, library, rust) = {
-        let (of_library, of_rust) = indices.each();
-        let (white_of_library, white_of_rust) = whitening.each();
-        let emitted = both(
-            &emission.result,
-            &case,
-            |result| probe::emit_decipher(instance, m, of_library, white_of_library, result),
-            |result| emission::decipher(instance, m, of_rust, white_of_rust, result),
-        );
-        (
-            emitted,
-            probe::decipher_size(instance, m, of_library, white_of_library),
-            emission::decipher_size(instance, m, of_rust, white_of_rust),
-        )
-    };
-    assert_eq!(library, rust, "sizes of library, rust; {}", case());
-    assert_size(&emitted, rust, emission.result.len());
-    indices.settle(0, "indices", &case);
-    whitening.settle(0, "whitening bits", &case);
-    emitted
-}
-
-/// The size is that of the netlist that was written. A refusal is the same, but
-/// for one for want of room.
-fn assert_size((answer, result): &Emitted, size: Size, room: usize) {
-    match answer.number {
-        0 => {
-            assert_eq!(size.answer, Answer::DONE);
-            assert_eq!(size.gates, result[1] as usize);
-            assert_eq!(size.words, length(result));
-        }
-        8 => {
-            assert_eq!(size.answer, Answer::DONE);
-            assert!(size.words > room);
-        }
-        _ => assert_eq!(size, Size::refused(*answer)),
-    }
-}
 
 /// Lends rooms of every kind to an emission that has to write `expected`: too
 /// short ones, the exact one and longer ones.
@@ -131,7 +36,7 @@ fn in_every_room(
     emit: &dyn Fn(&[u32]) -> Emitted,
 ) {
     let exact = expected.len();
-    for room in [0, 1, HEADER, exact / 2, exact - 1] {
+    for room in [0, 1, HEADER_WORDS, exact / 2, exact - 1] {
         let (answer, result) = emit(&fill(random, room));
         assert_eq!(answer, refusal(8, list, room));
         assert_eq!(result.len(), room);
@@ -141,6 +46,18 @@ fn in_every_room(
         assert_eq!(answer, Answer::DONE);
         assert!(result[..exact] == *expected);
     }
+}
+
+/// The same for a deciphering netlist.
+fn deciphers_in_every_room(random: &mut Random, emission: &Emission) {
+    let expected = emission.expected();
+    assert_eq!(expected.len(), emission.words());
+    in_every_room(random, 3, &expected, &|room| {
+        decipher(&Emission {
+            call: emission.call.clone(),
+            result: room.to_vec(),
+        })
+    });
 }
 
 /// Rooms of any kind for an emission that has to answer 13.
@@ -153,7 +70,7 @@ fn in_no_room(random: &mut Random, emit: &dyn Fn(&[u32]) -> Emitted) {
 
 /// The words of the netlist of threshold `d` of `n`.
 fn threshold_words(d: usize, n: usize) -> Vec<u32> {
-    let expected = definitions::threshold_netlist(d, n);
+    let expected = definitions::netlist::threshold(d, n);
     let (answer, words) = threshold(d as u32, n as u32, &vec![7; expected.len()]);
     assert_eq!(answer, Answer::DONE);
     assert_eq!(words, expected);
@@ -161,7 +78,7 @@ fn threshold_words(d: usize, n: usize) -> Vec<u32> {
 }
 
 fn one_hot_words(n: usize) -> Vec<u32> {
-    let expected = definitions::one_hot_netlist(n);
+    let expected = definitions::netlist::one_hot(n);
     let (answer, words) = one_hot(n as u32, &vec![7; expected.len()]);
     assert_eq!(answer, Answer::DONE);
     assert_eq!(words, expected);
@@ -191,32 +108,16 @@ fn costs(net: &[u32]) -> (usize, usize) {
 /// The netlist that the printing program prints for "2 3".
 #[test]
 fn printed_netlist() {
-    #[rustfmt::skip]
-    let printed = [
-        3, 5, 1,
-        NOT, 0, 0, 0,
-        MUX, 1, 0, 3,
-        AND, 0, 1, 0,
-        AND, 4, 2, 0,
-        XOR, 6, 5, 0,
-        7,
-    ];
     let (answer, words) = threshold(2, 3, &[9; 26]);
     assert_eq!(answer, Answer::DONE);
-    assert_eq!(words[..24], printed);
+    assert_eq!(words[..24], worked::THRESHOLD);
     assert_eq!(words[24..], [9, 9]);
-    assert_eq!(costs(&printed), (3, 2));
+    assert_eq!(costs(&worked::THRESHOLD), (3, 2));
 }
 
 #[test]
 fn values_by_hand() {
-    for (x, d, value) in [
-        (&[0, 1, 1][..], 2, 1),
-        (&[1, 0, 0], 2, 0),
-        (&[1, 1, 1], 3, 1),
-        (&[1], 1, 1),
-        (&[1, 1, 1], 4, 0),
-    ] {
+    for (x, d, value) in worked::THRESHOLDS {
         assert_eq!(run(&threshold_words(d, x.len()), x), [value]);
     }
     assert_eq!(run(&one_hot_words(2), &[1, 0]), [0, 1, 0]);
@@ -247,7 +148,7 @@ const FAR: [u32; 14] = [
 fn every_one_hot() {
     let mut random = seeded(401);
     for n in 0..=64 {
-        let expected = definitions::one_hot_netlist(n);
+        let expected = definitions::netlist::one_hot(n);
         in_every_room(&mut random, 1, &expected, &|room| one_hot(n as u32, room));
     }
     for n in FAR {
@@ -262,7 +163,7 @@ fn every_threshold() {
         let beyond = [n + 2, n + 3, 256 + n, 1 << 31, u32::MAX - 1, u32::MAX];
         for d in (0..=n + 1).chain(beyond) {
             if n <= 64 && (1..=n + 1).contains(&d) {
-                let expected = definitions::threshold_netlist(d as usize, n as usize);
+                let expected = definitions::netlist::threshold(d as usize, n as usize);
                 in_every_room(&mut random, 1, &expected, &|room| threshold(d, n, room));
             } else {
                 in_no_room(&mut random, &|room| threshold(d, n, room));
@@ -279,18 +180,9 @@ fn every_threshold() {
 /// All inputs of up to eight bits; of more, one of each of these weights.
 fn inputs(random: &mut Random, n: usize, weights: &[usize]) -> Vec<Vec<u8>> {
     if n <= 8 {
-        return (0..1 << n)
-            .map(|number: u32| (0..n).map(|i| (number >> i & 1) as u8).collect())
-            .collect();
+        return all_bits(n);
     }
-    let of_weight = |&weight: &usize| {
-        let mut x = vec![0; n];
-        x[..weight.min(n)].fill(1);
-        for place in 0..n {
-            x.swap(place, random.between(place, n - 1));
-        }
-        x
-    };
+    let of_weight = |&weight: &usize| of_weight(random, n, weight.min(n));
     weights.iter().map(of_weight).collect()
 }
 
@@ -304,8 +196,7 @@ fn one_hot_values() {
         metered(&net);
         let weights: Vec<usize> = (0..=n).collect();
         for x in inputs(&mut random, n, &weights) {
-            let weight = x.iter().filter(|&&bit| bit == 1).count();
-            let expected: Vec<u8> = (0..=n).map(|j| u8::from(j == weight)).collect();
+            let expected: Vec<u8> = (0..=n).map(|j| u8::from(j == weight(&x))).collect();
             assert_eq!(run(&net, &x), expected);
         }
     }
@@ -320,10 +211,10 @@ fn threshold_values() {
         for d in 1..=n + 1 {
             let net = threshold_words(d, n);
             assert_eq!(check(&net), Answer::DONE);
-            assert_eq!(costs(&net), definitions::threshold_costs(d, n));
+            assert_eq!(costs(&net), definitions::netlist::threshold_costs(d, n));
             let weights = [d - 1, d, d + 1, random.between(0, n)];
             for x in inputs(&mut random, n, &weights) {
-                assert_eq!(run(&net, &x), [definitions::threshold(&x, d)]);
+                assert_eq!(run(&net, &x), [definitions::filter::threshold(&x, d)]);
             }
         }
     }
@@ -352,22 +243,20 @@ fn netlists_decipher() {
             assert_eq!(net.len(), emission.words());
             assert_eq!(check(&net), Answer::DONE);
             let (multiplications, depth) = costs(&net);
-            let (expected, bound) = definitions::deciphering_costs(instance, m);
+            let (expected, bound) = definitions::deciphering::costs(instance, m);
             assert_eq!(multiplications, expected);
             match instance {
                 6 => assert!(depth <= bound),
                 _ => assert_eq!(depth, bound),
             }
-            let inputs = emission.inputs();
-            assert_eq!(run(&net, &inputs), emission.record());
+            assert_eq!(run(&net, &emission.inputs()), emission.record());
             let call = &emission.call;
-            let (key, enciphered) = inputs.split_at(call.key.len());
             let mut deciphered = vec![9; m];
             let answer = probe::decipher(
                 instance,
                 call.m,
-                key,
-                enciphered,
+                &call.key,
+                &call.expected(),
                 &call.indices,
                 &call.whitening,
                 &mut deciphered,
@@ -387,11 +276,10 @@ fn any_key_and_record() {
         let mut emission = emission_cases::sound(&mut random, instance, m);
         let net = decipher_words(&emission);
         for percent in [0, 50, 50, 80, 95, 99, 100] {
-            for bit in &mut emission.call.key {
-                *bit = u8::from(random.chance(percent));
-            }
+            let key = biased(&mut random, sized(instance).key, percent);
+            emission.call.key = lent_key(&key);
             let record = bits(&mut random, m);
-            let inputs = [&emission.call.key[..], &record].concat();
+            let inputs = deciphering_inputs(&emission.call.key, &record);
             emission.call.record = Some(record);
             assert_eq!(run(&net, &inputs), emission.call.expected());
         }
@@ -410,7 +298,7 @@ fn kreyvium_single_bits() {
                 *bit = 1 - base;
             }
             let net = decipher_words(&emission);
-            assert_eq!(net[..HEADER], [129, 16_147, 1]);
+            assert_eq!(net[..HEADER_WORDS], [129, 16_147, 1]);
             if place % 8 == 0 {
                 assert_eq!(run(&net, &emission.inputs()), emission.record());
             }
@@ -423,7 +311,7 @@ fn kreyvium_single_bits() {
 fn whitening_by_place() {
     let mut random = seeded(408);
     for instance in 3..=5 {
-        let (_, row) = definitions::sizes(instance).expect("an instance");
+        let (_, row) = sizes_of(instance);
         let m = 3;
         for whitened in 0..4 {
             let mut emission = emission_cases::sound(&mut random, instance, m);
@@ -438,14 +326,7 @@ fn whitening_by_place() {
             emission.result = fill(&mut random, emission.words());
             let net = decipher_words(&emission);
             assert_eq!(run(&net, &emission.inputs()), emission.record());
-            let expected = emission.expected();
-            in_every_room(&mut random, 3, &expected, &|room| {
-                let emission = Emission {
-                    result: room.to_vec(),
-                    ..emission.clone()
-                };
-                decipher(&emission)
-            });
+            deciphers_in_every_room(&mut random, &emission);
         }
     }
 }
@@ -455,17 +336,8 @@ fn every_room() {
     let mut random = seeded(409);
     for instance in cipher_cases::instances() {
         for m in [1, 2, 9] {
-            let mut emission = emission_cases::sound(&mut random, instance, m);
-            let expected = emission.expected();
-            assert_eq!(expected.len(), emission.words());
-            emission.result.clear();
-            in_every_room(&mut random, 3, &expected, &|room| {
-                let emission = Emission {
-                    result: room.to_vec(),
-                    ..emission.clone()
-                };
-                decipher(&emission)
-            });
+            let emission = emission_cases::sound(&mut random, instance, m);
+            deciphers_in_every_room(&mut random, &emission);
         }
     }
 }
@@ -484,10 +356,9 @@ fn each_fault_in_its_turn() {
             decipher_words(&emission);
             for fault in FAULTS.into_iter().rev() {
                 if fault.suits(instance, true) {
-                    let (number, list, place) =
-                        emission_cases::inflict(&mut random, &mut emission, fault);
+                    let held = emission_cases::inflict(&mut random, &mut emission, fault);
                     let (answer, result) = decipher(&emission);
-                    assert_eq!(answer, refusal(number, list, place), "{fault:?}");
+                    assert_eq!(answer, held.into(), "{fault:?}");
                     assert!(result == emission.result);
                 }
             }
@@ -508,10 +379,9 @@ fn single_faults_at_known_places() {
             for _ in 0..30 {
                 let m = random.between(1, 4);
                 let mut emission = emission_cases::sound(&mut random, instance, m);
-                let (number, list, place) =
-                    emission_cases::inflict(&mut random, &mut emission, fault);
+                let held = emission_cases::inflict(&mut random, &mut emission, fault);
                 let (answer, _) = decipher(&emission);
-                assert_eq!(answer, refusal(number, list, place), "{fault:?}");
+                assert_eq!(answer, held.into(), "{fault:?}");
                 made += 1;
             }
         }
@@ -523,8 +393,7 @@ fn single_faults_at_known_places() {
 #[test]
 fn numbers_out_of_range() {
     let mut random = seeded(412);
-    let far = [255, 256, 65_536, 65_537, 1 << 31, u32::MAX - 1, u32::MAX];
-    for instance in [0, 7, 8].into_iter().chain(far) {
+    for instance in no_instances() {
         for sound in cipher_cases::instances() {
             let mut emission = emission_cases::sound(&mut random, sound, 1);
             emission.call.instance = instance;
@@ -535,18 +404,13 @@ fn numbers_out_of_range() {
         }
     }
     for instance in cipher_cases::instances() {
-        let (_, row) = definitions::sizes(instance).expect("an instance");
-        for m in [0, 65, 66].into_iter().chain(far) {
+        for m in no_records() {
             let mut emission = emission_cases::sound(&mut random, instance, 1);
             emission.call.m = m;
             assert_eq!(decipher(&emission).0, refusal(2, 0, 0));
-            // Lists as long as m asks for.
             if m <= 66 {
-                emission.call.indices = cipher_cases::rows(&mut random, instance, m as usize);
-                if instance != 6 {
-                    emission.call.whitening = vec![0; m as usize * row];
-                }
-                emission.result = vec![9; HEADER + 4 * MAX_GATES + 70];
+                emission.call.suit(&mut random);
+                emission.result = vec![9; words_for(MAX_GATES, 70)];
                 assert_eq!(decipher(&emission).0, refusal(2, 0, 0));
             }
         }
@@ -557,10 +421,6 @@ fn numbers_out_of_range() {
 #[test]
 fn every_list_length() {
     let mut random = seeded(413);
-    let near = |length: usize| {
-        let around = length.saturating_sub(2)..=length + 2;
-        around.chain([0, 1, 64, 128, 144, 530, 1_394, 4_096, 16_384, 65_536])
-    };
     for instance in cipher_cases::instances() {
         let sound = emission_cases::sound(&mut random, instance, 2);
         for list in [List::Indices, List::Whitening] {
@@ -568,7 +428,7 @@ fn every_list_length() {
                 List::Indices => (1, sound.call.indices.len()),
                 _ => (2, sound.call.whitening.len()),
             };
-            for length in near(exact) {
+            for length in lengths_near(exact) {
                 let mut emission = sound.clone();
                 match list {
                     List::Indices => emission.call.indices.resize(length, 0),
@@ -620,20 +480,11 @@ fn every_place_of_a_bit() {
 fn every_place_of_an_index() {
     let mut random = seeded(415);
     for (instance, m) in [(1, 2), (5, 3)] {
-        let (key_bits, row) = definitions::sizes(instance).expect("an instance");
+        let (_, row) = sizes_of(instance);
         let mut sound = emission_cases::sound(&mut random, instance, m);
         sound.result.truncate(1_000);
         for place in 0..sound.call.indices.len() {
-            let key_bits = key_bits as u32;
-            let good = sound.call.indices[place];
-            for index in [
-                key_bits,
-                key_bits + 1,
-                1 << 14 | good,
-                1 << 16 | good,
-                1 << 31 | good,
-                u32::MAX,
-            ] {
+            for index in no_indices(instance, sound.call.indices[place]) {
                 let mut emission = sound.clone();
                 emission.call.indices[place] = index;
                 assert_eq!(decipher(&emission).0, refusal(5, 1, place));
@@ -667,13 +518,6 @@ fn lists_of_another_instance() {
 
 // ---- at random ----
 
-/// The conditions without their places, each once.
-fn without_places(held: &BTreeSet<Condition>) -> Vec<tally::Condition> {
-    let mut conditions: Vec<_> = held.iter().map(|held| (held.0, held.1)).collect();
-    conditions.dedup();
-    conditions
-}
-
 const ORDER: [tally::Condition; 9] = [
     (1, 0),
     (2, 0),
@@ -692,7 +536,7 @@ fn random_emissions() {
     let mut tally = Tally::default();
     // Answer numbers by instance, and numbers of bits of emissions that were
     // done.
-    let mut numbers: BTreeMap<(u32, u32), usize> = BTreeMap::new();
+    let mut numbers = Tally::default();
     let mut lengths = BTreeSet::new();
     for _ in 0..CASES {
         let (instance, m) = cipher_cases::size(&mut random);
@@ -712,35 +556,18 @@ fn random_emissions() {
         };
         let (answer, result) = decipher(&emission);
         assert_eq!(answer, least(&held));
-        tally.count(answer);
         tally.judge(&without_places(&held), answer);
-        *numbers.entry((instance, answer.number)).or_default() += 1;
+        numbers.see((instance, answer.number));
         if answer == Answer::DONE {
             let expected = emission.expected();
             assert!(result[..expected.len()] == expected);
             lengths.insert(emission.call.m);
         }
     }
-    for (number, list) in ORDER {
-        tally.assert_seen(number, list, CASES / 100);
-    }
+    tally.assert_each(ORDER, CASES / 100);
     tally.assert_seen(0, 0, CASES / 5);
     tally.assert_order(&ORDER, CASES / 1_000);
-    for instance in cipher_cases::instances() {
-        for number in 0..=8 {
-            let can = match number {
-                5 | 6 => instance != 6,
-                7 => instance <= 2,
-                _ => true,
-            };
-            let count = numbers.get(&(instance, number)).copied().unwrap_or(0);
-            let least = if can { CASES / 1_000 } else { 0 };
-            assert!(
-                count >= least,
-                "answer {number} to instance {instance} came up {count} times"
-            );
-        }
-    }
+    cipher_cases::assert_every_answer(&numbers, CASES / 1_000);
     assert!(lengths.iter().copied().eq(1..=64));
 }
 
@@ -778,7 +605,7 @@ fn random_scores() {
             assert_scores(&emission, &net, &one_hot_words(m));
             let d = random.between(1, m + 1);
             assert_scores(&emission, &net, &threshold_words(d, m));
-            let weight = emission.record().iter().filter(|&&bit| bit == 1).count();
+            let weight = weight(emission.record());
             for d in [weight, weight + 1] {
                 if (1..=m + 1).contains(&d) {
                     let both = glued(&net, &threshold_words(d, m));
@@ -799,8 +626,9 @@ fn largest_netlist() {
     emission.call.whitening.fill(1);
     emission.result = fill(&mut random, emission.words());
     let net = decipher_words(&emission);
-    assert_eq!(net[1], 64 * 2 * 1_280);
-    let left = MAX_GATES - net[1] as usize;
+    let gates = Counts::of(&net).gates;
+    assert_eq!(gates, 64 * 2 * 1_280);
+    let left = MAX_GATES - gates;
     for gates in [left, left + 1] {
         let scoring = cases::nots(64, gates);
         let room = vec![7; glued_length(&net, &scoring)];
@@ -827,23 +655,17 @@ fn small_stack() {
         let mut emission = emission_cases::sound(&mut random, instance, 64);
         let (mut cells, mut sum) = (vec![9; 10_000], vec![9; 10_000]);
         let Emission { call, result } = &mut emission;
-        std::thread::scope(|scope| {
-            let work = || {
-                let answer =
-                    probe::emit_decipher(instance, 64, &call.indices, &call.whitening, result);
-                assert_eq!(answer, Answer::DONE);
-                assert_eq!(probe::emit_one_hot(64, &mut cells), Answer::DONE);
-                assert_eq!(probe::emit_threshold(32, 64, &mut sum), Answer::DONE);
-            };
-            let thread = std::thread::Builder::new().stack_size(STACK);
-            let thread = thread.spawn_scoped(scope, work).expect("a thread");
-            thread.join().expect("the calls end well");
+        on_stack(STACK, || {
+            let answer = probe::emit_decipher(instance, 64, &call.indices, &call.whitening, result);
+            assert_eq!(answer, Answer::DONE);
+            assert_eq!(probe::emit_one_hot(64, &mut cells), Answer::DONE);
+            assert_eq!(probe::emit_threshold(32, 64, &mut sum), Answer::DONE);
         });
         let expected = emission.expected();
         assert!(emission.result[..expected.len()] == expected);
-        let expected = definitions::one_hot_netlist(64);
+        let expected = definitions::netlist::one_hot(64);
         assert!(cells[..expected.len()] == expected);
-        let expected = definitions::threshold_netlist(32, 64);
+        let expected = definitions::netlist::threshold(32, 64);
         assert!(sum[..expected.len()] == expected);
     }
 }
@@ -852,7 +674,7 @@ fn small_stack() {
 #[test]
 fn long_results() {
     let mut random = seeded(421);
-    let room: Vec<u32> = fill(&mut random, HEADER + 4 * MAX_GATES + 4_096);
+    let room: Vec<u32> = fill(&mut random, words_for(MAX_GATES, 4_096));
     assert_eq!(one_hot(64, &room).0, Answer::DONE);
     assert_eq!(threshold(32, 64, &room).0, Answer::DONE);
     for instance in cipher_cases::instances() {

@@ -3,33 +3,33 @@
 //! twice. The library is not called.
 
 use independent::cipher::{by_nested_loops, INSTANCES};
-use independent::cipher_cases;
-use independent::definitions::{self, Condition};
+use independent::cipher_cases::{self, by_hand, sized, ByHand};
+use independent::definitions::filter::weight;
+use independent::definitions::{self, least};
 use independent::emission::{decipher, decipher_with, one_hot, threshold, MAX_COUNTED};
 use independent::emission_cases::{self, Emission, FAULTS};
+use independent::key::{deciphering_inputs, lent_key};
 use independent::netlist::{
-    self, Answer, Level, Metering, AND, HEADER, MAX_GATES, MAX_INPUTS, MUX, NOT, ONE, XOR, ZERO,
+    self, gates, length, refusal, words_for, Answer, Counts, AND, HEADER_WORDS, MAX_GATES,
+    MAX_INPUTS, MUX, NOT, ONE, XOR, ZERO,
 };
-use independent::random::{bits, seeded, Random};
+use independent::random::{all_bits, biased, bits, of_weight, seeded, Random};
 use independent::tally::Tally;
-
-fn refusal(number: u32, list: u32, place: usize) -> Answer {
-    Answer::new(number, list, place)
-}
+use independent::worked;
 
 /// Words to lend where the length is not known; none of them is written here.
-const ROOM: usize = HEADER + 4 * MAX_GATES + 64;
+const ROOM: usize = words_for(MAX_GATES, 64);
 
 /// What an accepted emission wrote. One word less would have been too little
 /// room, and no other word is touched.
 fn words(list: u32, emit: impl Fn(&mut [u32]) -> Answer) -> Vec<u32> {
     let mut result = vec![7; ROOM];
     assert_eq!(emit(&mut result), Answer::DONE);
-    let length = HEADER + 4 * result[1] as usize + result[2] as usize;
+    let length = length(&result);
     assert!(result[length..].iter().all(|&word| word == 7));
     result.truncate(length);
     assert_eq!(netlist::check(&result), Answer::DONE);
-    for room in [0, HEADER, length - 1] {
+    for room in [0, HEADER_WORDS, length - 1] {
         let mut short = vec![7; room];
         assert_eq!(emit(&mut short), refusal(8, list, room));
         assert_eq!(short, vec![7; room]);
@@ -64,8 +64,9 @@ fn decipher_words(emission: &Emission) -> Vec<u32> {
 }
 
 fn evaluate(net: &[u32], inputs: &[u8]) -> Vec<u8> {
-    let mut values = vec![9; (net[0] + net[1]) as usize];
-    let mut outputs = vec![9; net[2] as usize];
+    let counts = Counts::of(net);
+    let mut values = vec![9; counts.wires()];
+    let mut outputs = vec![9; counts.outputs];
     let answer = netlist::evaluate(net, inputs, &mut values, &mut outputs);
     assert_eq!(answer, Answer::DONE);
     outputs
@@ -73,38 +74,23 @@ fn evaluate(net: &[u32], inputs: &[u8]) -> Vec<u8> {
 
 /// Multiplications, and the depth of each output.
 fn meter(net: &[u32]) -> (usize, Vec<usize>) {
-    let gates = net[1] as usize;
-    let mut depths = vec![9; net[0] as usize + gates];
-    let mut levels = vec![Level::EMPTY; gates + 1];
-    let Metering {
-        answer,
-        depth,
-        multiplications,
-    } = netlist::meter(net, &mut depths, &mut levels);
-    assert_eq!(answer, Answer::DONE);
-    let outputs = net[HEADER + 4 * gates..].iter();
-    let of_outputs: Vec<usize> = outputs
+    let (metering, depths) = netlist::measure(net);
+    let of_outputs: Vec<usize> = netlist::outputs(net)
+        .iter()
         .map(|&wire| depths[wire as usize] as usize)
         .collect();
-    assert_eq!(of_outputs.iter().max(), Some(&(depth as usize)));
-    (multiplications as usize, of_outputs)
+    assert_eq!(of_outputs.iter().max(), Some(&(metering.depth as usize)));
+    (metering.multiplications as usize, of_outputs)
 }
 
 /// All inputs of up to ten bits, and some of more.
 fn inputs(random: &mut Random, n: usize) -> Vec<Vec<u8>> {
     if n <= 10 {
-        return (0..1 << n)
-            .map(|number: u32| (0..n).map(|i| (number >> i & 1) as u8).collect())
-            .collect();
+        return all_bits(n);
     }
     let mut inputs = Vec::new();
     for weight in 0..=n {
-        let mut x = vec![0; n];
-        x[..weight].fill(1);
-        for place in 0..n {
-            x.swap(place, random.between(place, n - 1));
-        }
-        inputs.push(x);
+        inputs.push(of_weight(random, n, weight));
         inputs.push(bits(random, n));
     }
     inputs
@@ -115,18 +101,8 @@ fn inputs(random: &mut Random, n: usize) -> Vec<Vec<u8>> {
 /// The netlist that the printing program prints for "2 3".
 #[test]
 fn printed_netlist() {
-    #[rustfmt::skip]
-    let printed = [
-        3, 5, 1,
-        NOT, 0, 0, 0,
-        MUX, 1, 0, 3,
-        AND, 0, 1, 0,
-        AND, 4, 2, 0,
-        XOR, 6, 5, 0,
-        7,
-    ];
-    assert_eq!(threshold_words(2, 3), printed);
-    assert_eq!(meter(&printed), (3, vec![2]));
+    assert_eq!(threshold_words(2, 3), worked::THRESHOLD);
+    assert_eq!(meter(&worked::THRESHOLD), (3, vec![2]));
 }
 
 #[test]
@@ -134,15 +110,7 @@ fn printed_netlist() {
 fn netlists_by_hand() {
     assert_eq!(one_hot_words(0), [0, 1, 1, ONE, 0, 0, 0, 0]);
     assert_eq!(one_hot_words(1), [1, 1, 2, NOT, 0, 0, 0, 1, 0]);
-    assert_eq!(one_hot_words(2), [
-        2, 5, 3,
-        NOT, 0, 0, 0,
-        NOT, 1, 0, 0,
-        AND, 2, 3, 0,
-        MUX, 1, 0, 2,
-        AND, 0, 1, 0,
-        4, 5, 6,
-    ]);
+    assert_eq!(one_hot_words(2), worked::ONE_HOT);
     assert_eq!(one_hot_words(3), [
         3, 10, 4,
         NOT, 0, 0, 0,
@@ -179,13 +147,7 @@ fn netlists_by_hand() {
         AND, 3, 2, 0,
         4,
     ]);
-    for (x, d, value) in [
-        (&[0, 1, 1][..], 2, 1),
-        (&[1, 0, 0], 2, 0),
-        (&[1, 1, 1], 3, 1),
-        (&[1], 1, 1),
-        (&[1, 1, 1], 4, 0),
-    ] {
+    for (x, d, value) in worked::THRESHOLDS {
         assert_eq!(evaluate(&threshold_words(d, x.len()), x), [value]);
     }
     assert_eq!(evaluate(&one_hot_words(2), &[1, 0]), [0, 1, 0]);
@@ -198,10 +160,9 @@ fn every_one_hot() {
     let mut random = seeded(301);
     for n in 0..=MAX_COUNTED {
         let net = one_hot_words(n);
-        assert_eq!(net, definitions::one_hot_netlist(n));
+        assert_eq!(net, definitions::netlist::one_hot(n));
         for x in inputs(&mut random, n) {
-            let weight = x.iter().filter(|&&bit| bit == 1).count();
-            let expected: Vec<u8> = (0..=n).map(|j| u8::from(j == weight)).collect();
+            let expected: Vec<u8> = (0..=n).map(|j| u8::from(j == weight(&x))).collect();
             assert_eq!(evaluate(&net, &x), expected);
         }
     }
@@ -215,11 +176,11 @@ fn every_threshold() {
     for n in 0..=MAX_COUNTED {
         for d in 1..=n + 1 {
             let net = threshold_words(d, n);
-            assert_eq!(net, definitions::threshold_netlist(d, n));
-            let (multiplications, depth) = definitions::threshold_costs(d, n);
+            assert_eq!(net, definitions::netlist::threshold(d, n));
+            let (multiplications, depth) = definitions::netlist::threshold_costs(d, n);
             assert_eq!(meter(&net), (multiplications, vec![depth]), "{d} of {n}");
             for x in inputs(&mut random, n) {
-                assert_eq!(evaluate(&net, &x), [definitions::threshold(&x, d)]);
+                assert_eq!(evaluate(&net, &x), [definitions::filter::threshold(&x, d)]);
             }
         }
     }
@@ -268,7 +229,7 @@ fn every_instance_at_every_length() {
             assert!(net == emission.expected(), "instance {instance}, m {m}");
             assert_eq!(evaluate(&net, &emission.inputs()), emission.record());
             let (multiplications, depths) = meter(&net);
-            let (expected, depth) = definitions::deciphering_costs(instance, m);
+            let (expected, depth) = definitions::deciphering::costs(instance, m);
             assert_eq!(multiplications, expected);
             assert_eq!(depths.len(), m);
             if instance != 6 {
@@ -288,11 +249,10 @@ fn netlists_decipher() {
             let mut emission = emission_cases::sound(&mut random, instance, m);
             let net = decipher_words(&emission);
             for percent in [50, 50, 80, 95, 99, 100] {
-                for bit in &mut emission.call.key {
-                    *bit = u8::from(random.chance(percent));
-                }
+                let key = biased(&mut random, sized(instance).key, percent);
+                emission.call.key = lent_key(&key);
                 let record = bits(&mut random, m);
-                let inputs = [&emission.call.key[..], &record].concat();
+                let inputs = deciphering_inputs(&emission.call.key, &record);
                 emission.call.record = Some(record);
                 assert_eq!(evaluate(&net, &inputs), emission.call.expected());
             }
@@ -313,14 +273,13 @@ fn gates_of_a_bit() {
         emission.call.whitening[0] = 1;
         emission.call.whitening[row - 1] = 1;
         let net = decipher_words(&emission);
-        let (gates, _) = net[HEADER..].as_chunks::<4>();
-        let first = net[0];
+        let gates = gates(&net);
+        let counts = Counts::of(&net);
+        let (first, last) = (counts.inputs as u32, counts.wires() as u32 - 1);
         assert_eq!(gates[0], [NOT, 0, 0, 0]);
         assert_eq!(gates[1], [NOT, row as u32 - 1, 0, 0]);
         assert_eq!(gates[2], [XOR, first, 1, 0]);
         assert_eq!(gates[3], [XOR, first + 2, 2, 0]);
-        let gates = &gates[..net[1] as usize];
-        let last = first + net[1] - 1;
         assert_eq!(gates[gates.len() - 1], [XOR, last - 1, first - 1, 0]);
         assert_eq!(net[net.len() - 1], last);
         let sum = gates[gates.len() - 2];
@@ -339,7 +298,7 @@ fn gates_of_a_bit() {
     let mut emission = emission_cases::sound(&mut random, 1, 1);
     emission.call.indices = (0..530).collect();
     let net = decipher_words(&emission);
-    let (gates, _) = net[HEADER..].as_chunks::<4>();
+    let gates = gates(&net);
     assert_eq!(gates[0], [XOR, 0, 1, 0]);
     assert_eq!(gates[40], [XOR, 531 + 39, 41, 0]);
     assert_eq!(gates[41], [AND, 42, 43, 0]);
@@ -354,8 +313,8 @@ fn gates_of_kreyvium() {
     let mut iv = vec![0; 128];
     iv[127] = 1;
     let net = words(3, |result| decipher(6, 1, &[], &iv, result));
-    assert_eq!(net[..HEADER], [129, 16_147, 1]);
-    let (gates, _) = net[HEADER..].as_chunks::<4>();
+    assert_eq!(net[..HEADER_WORDS], [129, 16_147, 1]);
+    let gates = gates(&net);
     let (zero, one) = (129, 130);
     #[rustfmt::skip]
     let first_round = [
@@ -389,7 +348,7 @@ fn gates_of_kreyvium() {
     assert_eq!(gates[at + 6], [XOR, last + 5, 128, 0]);
     assert_eq!(gates[at + 7][0], AND);
     assert_eq!(net[net.len() - 1], last + 6);
-    assert_eq!(net.len(), HEADER + 4 * 16_147 + 1);
+    assert_eq!(net.len(), words_for(16_147, 1));
 }
 
 /// Output bit t has depth at most (1,087 + t) / 82, rounded up; 12 up to bit
@@ -413,8 +372,8 @@ fn depths_of_kreyvium() {
 fn largest_netlists() {
     for (instance, number) in INSTANCES.iter().zip(1..) {
         assert!(instance.key + 64 <= MAX_INPUTS);
-        let words = definitions::deciphering_words(number, 64, 64 * instance.row);
-        assert!(words <= HEADER + 4 * MAX_GATES + 64);
+        let words = definitions::deciphering::words(number, 64, 64 * instance.row);
+        assert!(words <= words_for(MAX_GATES, 64));
     }
 }
 
@@ -423,31 +382,26 @@ fn largest_netlists() {
 /// With every condition holding, each is given in its turn.
 #[test]
 fn order_by_hand() {
-    let row: Vec<u32> = (0..530).collect();
-    let zeros = vec![0; 530];
-    let mut damaged_row = row.clone();
-    damaged_row[7] = 3;
-    damaged_row[9] = 530;
-    let mut repeating = row.clone();
-    repeating[8] = 5;
-    repeating[7] = 6;
-    repeating[529] = 0;
-    let mut whitened = zeros.clone();
-    whitened[500] = 1;
-    let mut spoiled = whitened.clone();
-    spoiled[501] = 2;
+    let ByHand {
+        row,
+        beyond,
+        repeating,
+        zeros,
+        whitened,
+        spoiled,
+    } = by_hand();
     let answer = |instance, m, row: &[u32], white: &[u8], room| {
         decipher(instance, m, row, white, &mut vec![9; room])
     };
-    let exact = HEADER + 4 * 530 + 1;
+    let exact = words_for(530, 1);
     assert_eq!(answer(0, 0, &[530], &[2], 0), refusal(1, 0, 0));
     assert_eq!(answer(7, 65, &[530], &[2], 0), refusal(1, 0, 0));
     assert_eq!(answer(1, 0, &[530], &[2], 0), refusal(2, 0, 0));
     assert_eq!(answer(1, 65, &[530], &[2], 0), refusal(2, 0, 0));
     assert_eq!(answer(1, 1, &[530], &[2], 0), refusal(3, 1, 1));
-    assert_eq!(answer(1, 1, &damaged_row, &[2], 0), refusal(3, 2, 1));
-    assert_eq!(answer(1, 1, &damaged_row, &spoiled, 0), refusal(4, 2, 501));
-    assert_eq!(answer(1, 1, &damaged_row, &whitened, 0), refusal(5, 1, 9));
+    assert_eq!(answer(1, 1, &beyond, &[2], 0), refusal(3, 2, 1));
+    assert_eq!(answer(1, 1, &beyond, &spoiled, 0), refusal(4, 2, 501));
+    assert_eq!(answer(1, 1, &beyond, &whitened, 0), refusal(5, 1, 9));
     assert_eq!(answer(1, 1, &repeating, &whitened, 0), refusal(6, 1, 7));
     assert_eq!(answer(1, 1, &row, &whitened, 0), refusal(7, 2, 500));
     assert_eq!(answer(1, 1, &row, &zeros, 0), refusal(8, 3, 0));
@@ -458,7 +412,7 @@ fn order_by_hand() {
     assert_eq!(answer(1, 1, &row, &zeros, exact), Answer::DONE);
     // Kreyvium takes no indices, and its IV in place of whitening.
     let iv = [1; 128];
-    let exact = HEADER + 4 * 16_147 + 1;
+    let exact = words_for(16_147, 1);
     assert_eq!(answer(6, 1, &[0], &[2; 127], 0), refusal(3, 1, 1));
     assert_eq!(answer(6, 1, &[], &[2; 127], 0), refusal(3, 2, 127));
     assert_eq!(answer(6, 1, &[], &[2; 128], 0), refusal(4, 2, 0));
@@ -504,11 +458,9 @@ fn single_faults_at_known_places() {
             for _ in 0..8 {
                 let m = random.between(1, 3);
                 let mut emission = emission_cases::sound(&mut random, instance, m);
-                let (number, list, place) =
-                    emission_cases::inflict(&mut random, &mut emission, fault);
-                assert_eq!(judged(&emission), refusal(number, list, place), "{fault:?}");
-                let held: Vec<Condition> = emission.conditions().into_iter().collect();
-                assert_eq!(held.first(), Some(&(number, list, place)), "{fault:?}");
+                let held = emission_cases::inflict(&mut random, &mut emission, fault);
+                assert_eq!(judged(&emission), held.into(), "{fault:?}");
+                assert_eq!(emission.conditions().first(), Some(&held), "{fault:?}");
             }
         }
     }
@@ -530,18 +482,11 @@ fn damaged_emissions() {
                 emission_cases::wreck(&mut random, &mut emission);
             }
         }
-        let expected = match emission.conditions().first() {
-            Some(&(number, list, place)) => refusal(number, list, place),
-            None => Answer::DONE,
-        };
         let answer = judged(&emission);
+        let expected = least(&emission.conditions());
         assert_eq!(answer, expected, "{:?}", emission.call);
         tally.count(answer);
     }
-    for (number, list) in [(0, 0), (1, 0), (2, 0), (3, 1), (3, 2), (4, 2), (5, 1)] {
-        tally.assert_seen(number, list, 50);
-    }
-    for (number, list) in [(6, 1), (7, 2), (8, 3)] {
-        tally.assert_seen(number, list, 50);
-    }
+    tally.assert_each([(0, 0), (1, 0), (2, 0), (3, 1), (3, 2)], 50);
+    tally.assert_each([(4, 2), (5, 1), (6, 1), (7, 2), (8, 3)], 50);
 }

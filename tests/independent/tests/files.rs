@@ -3,18 +3,22 @@
 //! held to the definition of the file, and to answers known by hand or from the
 //! way a case was made.
 
-use independent::both::{check_file, file_length, file_of, read_file, words_of, write_file};
-use independent::cases::{self, Shape};
-use independent::definitions::{self, Condition, Stage};
+use independent::both::file::{check_file, file_length, file_of, read_file, words_of, write_file};
+use independent::cases::{self, LARGEST};
+use independent::definitions::file::{bytes, conditions, Stage};
+use independent::definitions::least;
 use independent::file;
 use independent::file_cases::{self, Fault, Reading, FAULTS};
 use independent::lent::show;
 use independent::netlist::{
-    self, Answer, AND, HEADER, MAX_GATES, MAX_INPUTS, MAX_OUTPUTS, MUX, NOT, XOR,
+    self, gate_place, length, refusal, words_for, Answer, GATE_WORDS, HEADER_WORDS, MAX_GATES,
+    MAX_OUTPUTS, MUX,
 };
 use independent::probe;
 use independent::random::{fill, seeded, Random};
-use std::collections::BTreeMap;
+use independent::stack::on_stack;
+use independent::tally::Tally;
+use independent::worked::THRESHOLD;
 
 /// Random cases of reading and of writing.
 const CASES: usize = 60_000;
@@ -25,17 +29,6 @@ const PASS_THROUGH: [u8; 20] = [
     0x4E, 0x4F, 0x00, 0x00, 0x00, 0x00,
 ];
 
-/// At least 2 of 3: NOT 0, MUX 1 0 3, AND 0 1, AND 4 2, XOR 6 5; output 7.
-const THRESHOLD: [u32; 24] = [
-    3, 5, 1, //
-    NOT, 0, 0, 0, //
-    MUX, 1, 0, 3, //
-    AND, 0, 1, 0, //
-    AND, 4, 2, 0, //
-    XOR, 6, 5, 0, //
-    7,
-];
-
 const THRESHOLD_FILE: &[u8] = b"NH\x03\0\0\0\x05\0\0\0\x01\0\0\0\
     NG\x02\0\0\0\0\0\0\0\0\0\0\0\0\
     NG\x05\x01\0\0\0\0\0\0\0\x03\0\0\0\
@@ -44,44 +37,23 @@ const THRESHOLD_FILE: &[u8] = b"NH\x03\0\0\0\x05\0\0\0\x01\0\0\0\
     NG\x03\x06\0\0\0\x05\0\0\0\0\0\0\0\
     NO\x07\0\0\0";
 
-fn refusal(number: u32, list: u32, place: usize) -> Answer {
-    Answer::new(number, list, place)
-}
-
-fn answer((number, list, place): Condition) -> Answer {
-    refusal(number, list, place)
-}
-
-/// The answer to a reading against which that holds, and to a check.
-fn due(held: &[(Stage, Condition)]) -> (Answer, Answer) {
-    let first = |stages: &mut dyn Iterator<Item = &(Stage, Condition)>| {
-        stages
-            .next()
-            .map_or(Answer::DONE, |&(_, held)| answer(held))
-    };
-    (
-        first(&mut held.iter()),
-        first(&mut held.iter().filter(|held| held.0 != Stage::Room)),
-    )
-}
-
 /// Has both programs read the file and check it. Answer and words are as the
 /// definitions have them, and what is done can be undone.
 fn read(source: &[u8], room: &[u32]) -> Answer {
-    let (to_reading, to_check) = due(&definitions::file_conditions(source, room.len()));
+    let held = conditions(source, room.len());
+    let to_check = least(held.iter().filter(|held| held.0 != Stage::Room));
     assert_eq!(check_file(source), to_check, "check of {}", show(source));
     let result = read_file(source, room);
-    assert_eq!(result.answer, to_reading, "reading of {}", show(source));
-    if to_reading == Answer::DONE {
-        let length = HEADER + 4 * result.words[1] as usize + result.words[2] as usize;
-        let words = &result.words[..length];
+    assert_eq!(result.answer, least(&held), "reading of {}", show(source));
+    if result.answer == Answer::DONE {
+        let words = &result.words[..length(&result.words)];
         assert_eq!(netlist::check(words), Answer::DONE);
-        assert!(definitions::file(words) == source);
+        assert!(bytes(words) == source);
         assert!(file_of(words) == source);
     } else {
         assert_eq!(result.words, room);
     }
-    to_reading
+    result.answer
 }
 
 /// The same without the margins, and without what the definitions say.
@@ -119,7 +91,7 @@ fn printed_file() {
 #[test]
 fn threshold_two_of_three() {
     assert_eq!(THRESHOLD_FILE.len(), 14 + 5 * 15 + 6);
-    assert_eq!(definitions::file(&THRESHOLD), THRESHOLD_FILE);
+    assert_eq!(bytes(&THRESHOLD), THRESHOLD_FILE);
     assert_eq!(file_of(&THRESHOLD), THRESHOLD_FILE);
     assert_eq!(words_of(THRESHOLD_FILE), THRESHOLD);
 }
@@ -146,8 +118,8 @@ fn words_have_their_low_byte_first() {
     let wire = 0x0001_0203;
     let last = net.len() - 1;
     net[last] = wire;
-    let gate = HEADER + 4 * (0x0002_0302);
-    net[gate..gate + 4].copy_from_slice(&[MUX, 0x0002_1122, 0x0001_5544, 0x0000_7788]);
+    let gate = gate_place(0x0002_0302);
+    net[gate..gate + GATE_WORDS].copy_from_slice(&[MUX, 0x0002_1122, 0x0001_5544, 0x0000_7788]);
     let source = file_of(&net);
     assert_eq!(source[..14], *b"NH\xFE\x7F\0\0\x04\x03\x02\0\x01\0\0\0");
     let at = 14 + 15 * 0x0002_0302;
@@ -185,7 +157,7 @@ fn order_by_hand() {
         for room in [0, 3, 23] {
             let judged_first = match expected.number {
                 12 => expected.place == 0,
-                9 => expected.place < HEADER,
+                9 => expected.place < HEADER_WORDS,
                 _ => false,
             };
             let expected = match judged_first {
@@ -238,7 +210,7 @@ fn counts_of_another_netlist() {
         source[2 + 4 * place..6 + 4 * place].copy_from_slice(&count.to_le_bytes());
         source
     };
-    let room = vec![9; 3 + 4 * MAX_GATES + MAX_OUTPUTS];
+    let room = vec![9; words_for(MAX_GATES, MAX_OUTPUTS)];
     for (source, expected) in [
         // Fewer gates: a gate's record stands where an output's is due.
         (with(1, 4), refusal(12, 1, 74)),
@@ -267,10 +239,10 @@ fn counts_of_another_netlist() {
     }
     // Room is judged by the counts, whatever records there are.
     for (source, words) in [
-        (with(1, 6), 3 + 24 + 1),
-        (with(1, 4), 3 + 16 + 1),
-        (with(1, 262_144), 3 + 4 * 262_144 + 1),
-        (with(2, 4_096), 3 + 20 + 4_096),
+        (with(1, 6), words_for(6, 1)),
+        (with(1, 4), words_for(4, 1)),
+        (with(1, 262_144), words_for(262_144, 1)),
+        (with(2, 4_096), words_for(5, 4_096)),
     ] {
         assert_eq!(read(&source, &room[..words - 1]), refusal(8, 2, words - 1));
         assert_eq!(read(&source, &room[..words]).number, 12);
@@ -302,7 +274,7 @@ fn every_byte_with_every_value() {
 #[test]
 fn every_pair_of_damaged_bytes() {
     const VALUES: [u8; 9] = [0, 1, 2, 5, 6, 71, 78, 79, 255];
-    let mut numbers = BTreeMap::new();
+    let mut numbers = Tally::default();
     let mut room = [9; 24];
     for first in 0..THRESHOLD_FILE.len() {
         for second in first + 1..THRESHOLD_FILE.len() {
@@ -311,14 +283,12 @@ fn every_pair_of_damaged_bytes() {
                 for other in VALUES {
                     source[first] = one;
                     source[second] = other;
-                    *numbers.entry(alike(&source, &mut room).number).or_insert(0) += 1;
+                    numbers.see(alike(&source, &mut room).number);
                 }
             }
         }
     }
-    for number in [0, 8, 9, 12] {
-        assert!(numbers[&number] > 1_000, "{numbers:?}");
-    }
+    numbers.assert_each([0, 8, 9, 12], 1_001);
 }
 
 #[test]
@@ -406,12 +376,8 @@ fn single_faults_at_known_places() {
             let Some(held) = file_cases::inflict(&mut random, &mut reading, fault) else {
                 continue;
             };
-            let expected = answer(held);
-            assert_eq!(
-                read(&reading.source, &reading.result),
-                expected,
-                "{fault:?}"
-            );
+            let answer = read(&reading.source, &reading.result);
+            assert_eq!(answer, held.into(), "{fault:?}");
             made += 1;
         }
         assert!(made > 200, "{fault:?} was made only {made} times");
@@ -444,11 +410,8 @@ fn each_fault_in_its_turn() {
                 _ => held,
             };
             last = Some((stage(fault), expected));
-            assert_eq!(
-                read(&reading.source, &reading.result),
-                answer(expected),
-                "{fault:?}"
-            );
+            let answer = read(&reading.source, &reading.result);
+            assert_eq!(answer, expected.into(), "{fault:?}");
         }
     }
 }
@@ -475,9 +438,8 @@ const STAGES: [Stage; 5] = [
 fn random_readings() {
     let mut random = seeded(304);
     let mut done = 0;
-    let mut given = BTreeMap::new();
-    // The stage that gave the answer, with each later one that had a fault.
-    let mut preferred = BTreeMap::new();
+    // The stages that gave the answer, with each later one that had a fault.
+    let mut stages = Tally::default();
     let mut far = 0;
     for _ in 0..CASES {
         let shape = cases::small_shape(&mut random);
@@ -492,7 +454,7 @@ fn random_readings() {
                 for _ in 0..random.between(1, 4) {
                     file_cases::wreck(&mut random, &mut reading.source);
                 }
-                let room = near(&mut random, reading.words.len());
+                let room = random.near(reading.words.len());
                 reading.result = fill(&mut random, room);
             }
         }
@@ -503,42 +465,20 @@ fn random_readings() {
             done += 1;
             continue;
         };
-        *given.entry(first).or_insert(0) += 1;
-        for &(later, _) in &held[1..] {
-            *preferred.entry((first, later)).or_insert(0) += 1;
-        }
+        stages.see(first);
+        stages.prefer(first, held[1..].iter().map(|later| later.0));
     }
     assert!(done > CASES / 10, "only {done} sound ones");
     assert!(far > CASES / 100, "only {far} faults far from the front");
-    for (at, stage) in STAGES.iter().enumerate() {
-        let seen = given.get(stage).copied().unwrap_or(0);
-        assert!(seen > CASES / 50, "{stage:?} came up {seen} times");
-        for later in &STAGES[at + 1..] {
-            let seen = preferred.get(&(*stage, *later)).copied().unwrap_or(0);
-            assert!(
-                seen > CASES / 1_000,
-                "{stage:?} and {later:?} held together {seen} times"
-            );
-        }
-    }
-}
-
-/// A length near the needed one: exact, one short, one long, or any.
-fn near(random: &mut Random, needed: usize) -> usize {
-    match random.below(20) {
-        0..=8 => needed,
-        9 | 10 => needed + 1,
-        11 => needed + random.between(2, 40),
-        12..=16 => needed.saturating_sub(1),
-        17 => 0,
-        _ => random.between(0, needed),
-    }
+    stages.assert_each(STAGES, CASES / 50 + 1);
+    stages.assert_order(&STAGES, CASES / 1_000 + 1);
 }
 
 #[test]
 fn random_writings() {
     let mut random = seeded(305);
-    let mut seen = BTreeMap::new();
+    // Numbers, with whether the netlist was broken and the room short.
+    let mut seen = Tally::default();
     for _ in 0..CASES {
         let shape = cases::small_shape(&mut random);
         let mut net = cases::sound(&mut random, &shape);
@@ -558,7 +498,7 @@ fn random_writings() {
         // A netlist that cannot be written has the room of the one it was.
         let broken = netlist::check(&net);
         let needed = file_length(if broken == Answer::DONE { &net } else { &sound });
-        let room = near(&mut random, needed);
+        let room = random.near(needed);
         let stale = fill(&mut random, room);
         let result = write_file(&net, &stale);
         let expected = match (broken, room < needed) {
@@ -567,21 +507,18 @@ fn random_writings() {
         };
         assert_eq!(result.answer, expected);
         if expected == Answer::DONE {
-            assert!(result.bytes[..needed] == definitions::file(&net));
+            assert!(result.bytes[..needed] == bytes(&net));
             assert!(words_of(&result.bytes[..needed]) == net);
         }
-        let both = (broken != Answer::DONE, room < needed);
-        *seen.entry((expected.number, both)).or_insert(0) += 1;
+        seen.see((expected.number, broken != Answer::DONE, room < needed));
     }
-    for case in [
-        (0, (false, false)),
-        (8, (false, true)),
-        (9, (true, false)),
-        (9, (true, true)),
-    ] {
-        let seen = seen.get(&case).copied().unwrap_or(0);
-        assert!(seen > CASES / 20, "{case:?} came up {seen} times");
-    }
+    let each = [
+        (0, false, false),
+        (8, false, true),
+        (9, true, false),
+        (9, true, true),
+    ];
+    seen.assert_each(each, CASES / 20 + 1);
 }
 
 /// Reading what was written returns the words; writing what was read returns
@@ -603,14 +540,7 @@ fn round_trips() {
 // ---- at the limits ----
 
 fn largest(random: &mut Random) -> Reading {
-    let shape = Shape {
-        inputs: MAX_INPUTS,
-        gates: MAX_GATES,
-        outputs: MAX_OUTPUTS,
-        weights: cases::MIXED,
-        reach: cases::ANYWHERE,
-    };
-    file_cases::sound(random, &shape)
+    file_cases::sound(random, &LARGEST)
 }
 
 #[test]
@@ -643,12 +573,9 @@ fn faults_in_the_largest_file() {
     for fault in FAULTS {
         let mut reading = sound.clone();
         let held = file_cases::inflict(&mut random, &mut reading, fault);
-        let expected = answer(held.expect("the largest file has a place for every fault"));
-        assert_eq!(
-            read(&reading.source, &reading.result),
-            expected,
-            "{fault:?}"
-        );
+        let held = held.expect("the largest file has a place for every fault");
+        let answer = read(&reading.source, &reading.result);
+        assert_eq!(answer, held.into(), "{fault:?}");
     }
     let mut reading = sound;
     let last = reading.source.len();
@@ -657,10 +584,10 @@ fn faults_in_the_largest_file() {
         (
             last - 1,
             255,
-            refusal(9, 1, 3 + 4 * MAX_GATES + MAX_OUTPUTS - 1),
+            refusal(9, 1, words_for(MAX_GATES, MAX_OUTPUTS) - 1),
         ),
-        (last_gate + 2, 6, refusal(9, 1, 3 + 4 * (MAX_GATES - 1))),
-        (14 + 2, 6, refusal(9, 1, 3)),
+        (last_gate + 2, 6, refusal(9, 1, gate_place(MAX_GATES - 1))),
+        (14 + 2, 6, refusal(9, 1, gate_place(0))),
         (last - 6, 0, refusal(12, 1, last - 6)),
         (last_gate + 15 + 1, 0, refusal(12, 1, last_gate + 15)),
         (last_gate + 1, 0, refusal(12, 1, last_gate)),
@@ -679,17 +606,12 @@ fn small_stack() {
     let reading = largest(&mut random);
     let mut words = vec![9; reading.words.len()];
     let mut bytes = vec![9; reading.source.len()];
-    std::thread::scope(|scope| {
-        let call = || {
-            assert_eq!(probe::check_file(&reading.source), Answer::DONE);
-            let answer = probe::read_file(&reading.source, &mut words);
-            assert_eq!(answer, Answer::DONE);
-            let answer = probe::write_file(&reading.words, &mut bytes);
-            assert_eq!(answer, Answer::DONE);
-        };
-        let thread = std::thread::Builder::new().stack_size(STACK);
-        let thread = thread.spawn_scoped(scope, call).expect("a thread");
-        thread.join().expect("the calls end well");
+    on_stack(STACK, || {
+        assert_eq!(probe::check_file(&reading.source), Answer::DONE);
+        let answer = probe::read_file(&reading.source, &mut words);
+        assert_eq!(answer, Answer::DONE);
+        let answer = probe::write_file(&reading.words, &mut bytes);
+        assert_eq!(answer, Answer::DONE);
     });
     assert!(words == reading.words);
     assert!(bytes == reading.source);

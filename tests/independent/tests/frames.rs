@@ -3,25 +3,27 @@
 //! held to the definitions, and to answers known by hand or from the way a case
 //! was made.
 
-use independent::both::{append, append_after, bits, check_frames, fields, read_frames};
-use independent::definitions::{self, Condition, FrameConditions, FrameStage};
+use independent::both::frames::{append, append_after, bits, check_frames, fields, read_frames};
+use independent::definitions::frames::{
+    check_conditions, port_bits, port_fields, FrameConditions, FrameStage,
+};
+use independent::definitions::{self, least, Condition};
 use independent::frame_cases::{
-    self, iv_at, iv_bits, least, not_above, number, put_iv, sound_appending, sound_reading,
-    Appending, FileFault, List, Reading, FILE_FAULTS, LISTS,
+    self, iv_at, iv_bits, not_above, number, put_iv, sound_appending, sound_reading, Appending,
+    FileFault, List, Reading, FILE_FAULTS, LISTS,
 };
 use independent::frames::{self, FRAME, RECORD, WIDTHS};
+use independent::key::lent_key;
 use independent::lent::show;
-use independent::netlist::Answer;
+use independent::netlist::{refusal, Answer};
 use independent::probe;
 use independent::random::{self, fill, seeded, Random};
-use std::collections::BTreeMap;
+use independent::stack::on_stack;
+use independent::tally::Tally;
+use independent::worked;
 
 /// Random appendings of either kind, and random readings.
 const CASES: usize = 20_000;
-
-fn refusal(number: u32, list: u32, place: usize) -> Answer {
-    Answer::new(number, list, place)
-}
 
 /// Has both programs append to a file. The answer is the definitions'.
 fn appended(case: &Appending) -> Answer {
@@ -42,19 +44,10 @@ fn appended_after(case: &Appending) -> Answer {
 fn frame_of(case: &Appending) -> Vec<u8> {
     let mut written = append(case);
     assert_eq!(written.answer, Answer::DONE);
-    assert_eq!(append_after(&last_alone(case)).bytes, written.bytes);
+    assert_eq!(append_after(&case.after_last()).bytes, written.bytes);
     written.bytes.truncate(FRAME);
     assert_eq!(written.bytes, case.expected());
     written.bytes
-}
-
-/// The same with the last 26 bytes of the file.
-fn last_alone(case: &Appending) -> Appending {
-    let first = case.file.len().saturating_sub(FRAME);
-    Appending {
-        file: case.file[first..].to_vec(),
-        ..case.clone()
-    }
 }
 
 /// An appending to the file with room for the frame.
@@ -74,7 +67,7 @@ fn appending(key: &[u8], record: &[u8], iv: u128, file: &[u8]) -> Appending {
 fn read(case: &Reading) -> Answer {
     let answer = read_frames(case).answer;
     assert_eq!(answer, least(&case.conditions()), "{case:?}");
-    let held = definitions::check_conditions(1, &case.file);
+    let held = check_conditions(1, &case.file);
     let checked = check_frames(&case.file);
     assert_eq!(checked, least(&held), "check of {}", show(&case.file));
     match answer.number {
@@ -87,12 +80,7 @@ fn read(case: &Reading) -> Answer {
 
 /// The records of a sound file, with room for exactly those.
 fn records_of(key: &[u8], file: &[u8]) -> Vec<u8> {
-    let case = Reading {
-        key: key.to_vec(),
-        file: file.to_vec(),
-        records: vec![9; RECORD * (file.len() / FRAME)],
-    };
-    let read = read_frames(&case);
+    let read = read_frames(&Reading::exact(key, file));
     assert_eq!(read.answer, Answer::DONE);
     read.bytes
 }
@@ -100,16 +88,12 @@ fn records_of(key: &[u8], file: &[u8]) -> Vec<u8> {
 /// Checks the file, reads it and appends to it and to its last frame, all by
 /// both programs, and holds each answer to the definitions.
 fn every_call(file: &[u8], new: u128) -> Answer {
-    let (key, record) = ([1; 128], [0; 64]);
-    let case = appending(&key, &record, new, file);
+    let key = lent_key(&[1; 128]);
+    let case = appending(&key, &[0; 64], new, file);
     appended(&case);
     appended_after(&case);
-    appended_after(&last_alone(&case));
-    read(&Reading {
-        key: case.key,
-        file: case.file,
-        records: vec![9; RECORD * (file.len() / FRAME)],
-    })
+    appended_after(&case.after_last());
+    read(&Reading::exact(&key, file))
 }
 
 // ---- by hand ----
@@ -117,8 +101,8 @@ fn every_call(file: &[u8], new: u128) -> Answer {
 /// Key, IV and record all 0.
 #[test]
 fn worked_frame() {
-    let worked = *b"PT\0\0\0\0\0\0\0\0\0\0\0\0\0\0\0\0\x64\x3B\x8F\x2F\x3D\xF0\x98\x44";
-    let (key, record) = ([0; 128], [0; 64]);
+    let worked = worked::FRAME;
+    let (key, record) = (lent_key(&[0; 128]), [0; 64]);
     let case = appending(&key, &record, 0, &[]);
     assert_eq!(frame_of(&case), worked);
     assert_eq!(append(&case).bytes[FRAME..], [9, 9]);
@@ -250,7 +234,7 @@ fn empty_lists() {
         records: vec![],
     };
     assert_eq!(read(&case), refusal(3, 1, 0));
-    case.key = vec![1; 128];
+    case.key = lent_key(&[1; 128]);
     assert_eq!(read(&case), Answer::DONE);
     case.records = vec![9; 70];
     assert_eq!(read(&case), Answer::DONE);
@@ -264,7 +248,7 @@ fn empty_lists() {
 fn files_of_every_size() {
     let mut random = seeded(612);
     for _ in 0..2 {
-        let key = random::bits(&mut random, 128);
+        let key = lent_key(&random::bits(&mut random, 128));
         let ivs = frame_cases::rising(&mut random, 201);
         let (mut file, mut records) = (vec![], vec![]);
         for &iv in &ivs {
@@ -276,7 +260,7 @@ fn files_of_every_size() {
             records.extend(record);
         }
         assert_eq!(file.len(), 201 * FRAME);
-        assert!(definitions::records(&key, &file) == records);
+        assert!(definitions::frames::records(&key, &file) == records);
         // No IV serves twice, nor does any below the last.
         for &iv in &ivs {
             let case = appending(&key, &records[..64], iv, &file);
@@ -333,7 +317,7 @@ fn every_room() {
             case.frame = fill(&mut random, room);
             for (case, call) in [
                 (&case, append as fn(&Appending) -> _),
-                (&last_alone(&case), append_after),
+                (&case.after_last(), append_after),
             ] {
                 let written = call(case);
                 if room < FRAME {
@@ -380,12 +364,7 @@ fn every_list_length() {
             assert_eq!(appended(&case), expected);
             assert_eq!(appended_after(&case), expected);
             if list == List::Key {
-                let case = Reading {
-                    key: case.key,
-                    file: case.file,
-                    records: vec![9; 64],
-                };
-                assert_eq!(read(&case), expected);
+                assert_eq!(read(&Reading::exact(&case.key, &case.file)), expected);
             }
         }
     }
@@ -423,12 +402,7 @@ fn every_place_of_a_bit() {
                 assert_eq!(appended(&case), expected);
                 assert_eq!(appended_after(&case), expected);
                 if list == List::Key {
-                    let case = Reading {
-                        key: case.key,
-                        file: case.file,
-                        records: vec![9; 64],
-                    };
-                    assert_eq!(read(&case), expected);
+                    assert_eq!(read(&Reading::exact(&case.key, &case.file)), expected);
                 }
             }
             // Either bit is one.
@@ -458,7 +432,7 @@ fn in_both_orders(low: u128, high: u128) {
             false => refusal(16, 2, FRAME),
         };
         assert_eq!(every_call(&file, u128::MAX), expected, "{ivs:x?}");
-        let case = appending(&[1; 128], &[0; 64], ivs[1], &file[..FRAME]);
+        let case = appending(&lent_key(&[1; 128]), &[0; 64], ivs[1], &file[..FRAME]);
         let expected = match rises {
             true => Answer::DONE,
             false => refusal(16, 4, FRAME),
@@ -523,7 +497,7 @@ fn single_bytes_of_ivs() {
 #[test]
 fn every_byte_with_every_value() {
     let mut random = seeded(620);
-    let mut seen = BTreeMap::new();
+    let mut seen = Tally::default();
     // IVs by one over a border, and any.
     for ivs in [vec![0xFE, 0xFF, 0x100], frame_cases::rising(&mut random, 3)] {
         let sound = frame_cases::file(&mut random, &ivs);
@@ -532,13 +506,11 @@ fn every_byte_with_every_value() {
                 let mut file = sound.clone();
                 file[place] = value;
                 let answer = every_call(&file, ivs[2] + 1);
-                *seen.entry(answer.number).or_insert(0) += 1;
+                seen.see(answer.number);
             }
         }
     }
-    for number in [0, 15, 16] {
-        assert!(seen[&number] > 2_000, "{seen:?}");
-    }
+    seen.assert_each([0, 15, 16], 2_001);
 }
 
 /// Two damaged bytes at once, without margins.
@@ -551,7 +523,7 @@ fn every_pair_of_damaged_bytes() {
     let judged: Vec<usize> = (0..sound.len())
         .filter(|place| place % FRAME < 18)
         .collect();
-    let mut numbers = BTreeMap::new();
+    let mut numbers = Tally::default();
     for (at, &first) in judged.iter().enumerate() {
         for &second in &judged[at + 1..] {
             let mut file = sound.clone();
@@ -561,14 +533,12 @@ fn every_pair_of_damaged_bytes() {
                     file[second] = other;
                     let answer = probe::check_frames(&file);
                     assert_eq!(answer, frames::check(&file), "check of {file:?}");
-                    *numbers.entry(answer.number).or_insert(0) += 1;
+                    numbers.see(answer.number);
                 }
             }
         }
     }
-    for number in [0, 15, 16] {
-        assert!(numbers[&number] > 1_000, "{numbers:?}");
-    }
+    numbers.assert_each([0, 15, 16], 1_001);
 }
 
 /// Two faults in a file: 15 and 16 in either order, and in one frame.
@@ -639,8 +609,7 @@ fn kind(&(stage, (number, list, _)): &(FrameStage, Condition)) -> Kind {
 #[derive(Default)]
 struct Given {
     done: usize,
-    first: BTreeMap<Kind, usize>,
-    preferred: BTreeMap<(Kind, Kind), usize>,
+    kinds: Tally<Kind>,
 }
 
 impl Given {
@@ -649,37 +618,26 @@ impl Given {
             self.done += 1;
             return;
         };
-        *self.first.entry(first).or_default() += 1;
         let mut later: Vec<Kind> = held.iter().skip(1).map(kind).collect();
         later.sort();
         later.dedup();
-        for later in later {
-            *self.preferred.entry((first, later)).or_default() += 1;
-        }
+        self.kinds.see(first);
+        self.kinds.prefer(first, later);
     }
 
     /// All of them were given, each where each of those after it held.
     fn assert_order(&self, order: &[Kind], least: usize) {
         assert!(self.done > CASES / 10, "only {} sound ones", self.done);
+        self.kinds.assert_each(order.iter().copied(), 4 * least);
         for (at, &earlier) in order.iter().enumerate() {
-            let seen = self.first.get(&earlier).copied().unwrap_or(0);
-            assert!(seen > 4 * least, "{earlier:?} came up {seen} times");
             for &later in &order[at + 1..] {
                 // Without a sound IV there is none to compare.
                 let compared = earlier.2 != 3 || later.0 != FrameStage::NewFrame;
                 if compared {
-                    self.assert_pair(earlier, later, least);
+                    self.kinds.assert_preferred(earlier, later, least);
                 }
             }
         }
-    }
-
-    fn assert_pair(&self, earlier: Kind, later: Kind, least: usize) {
-        let seen = self.preferred.get(&(earlier, later)).copied().unwrap_or(0);
-        assert!(
-            seen > least,
-            "{earlier:?} and {later:?} held together {seen} times"
-        );
     }
 }
 
@@ -764,9 +722,11 @@ fn random_appendings() {
         }
     }
     let order = [&LENGTHS[..3], &BITS, &in_file(4), &AT_THE_END].concat();
-    given.assert_order(&order, CASES / 2_000);
+    given.assert_order(&order, CASES / 2_000 + 1);
     let [broken, fallen] = in_file(4);
-    given.assert_pair(fallen, broken, CASES / 2_000);
+    given
+        .kinds
+        .assert_preferred(fallen, broken, CASES / 2_000 + 1);
 }
 
 #[test]
@@ -785,7 +745,7 @@ fn random_appendings_after() {
         }
     }
     let order = [&LENGTHS[..], &BITS, &in_file(4)[..1], &AT_THE_END].concat();
-    given.assert_order(&order, CASES / 2_000);
+    given.assert_order(&order, CASES / 2_000 + 1);
 }
 
 #[test]
@@ -816,9 +776,11 @@ fn random_readings() {
     }
     let room = (FrameStage::Room, 8, 3);
     let order = [&LENGTHS[..1], &BITS[..1], &in_file(2), &[room]].concat();
-    given.assert_order(&order, CASES / 2_000);
+    given.assert_order(&order, CASES / 2_000 + 1);
     let [broken, fallen] = in_file(2);
-    given.assert_pair(fallen, broken, CASES / 2_000);
+    given
+        .kinds
+        .assert_preferred(fallen, broken, CASES / 2_000 + 1);
 }
 
 /// What is appended to a sound file can be read: the old records and the new.
@@ -845,7 +807,7 @@ fn appended_and_read() {
 #[test]
 fn after_the_last_frame() {
     let mut random = seeded(628);
-    let mut seen = BTreeMap::new();
+    let mut seen = Tally::default();
     for _ in 0..10_000 {
         let frames = frame_cases::size(&mut random);
         let mut case = sound_appending(&mut random, frames);
@@ -856,18 +818,16 @@ fn after_the_last_frame() {
             continue;
         }
         let whole = append(&case);
-        let last = append_after(&last_alone(&case));
+        let last = append_after(&case.after_last());
         let expected = match whole.answer.number {
             16 => refusal(16, 4, FRAME),
             _ => whole.answer,
         };
         assert_eq!(last.answer, expected);
         assert_eq!(last.bytes, whole.bytes);
-        *seen.entry(expected.number).or_insert(0) += 1;
+        seen.see(expected.number);
     }
-    for number in [0, 3, 4, 8, 16] {
-        assert!(seen[&number] > 300, "{seen:?}");
-    }
+    seen.assert_each([0, 3, 4, 8, 16], 301);
 }
 
 // ---- far places ----
@@ -912,24 +872,19 @@ fn small_stack() {
     let appending = sound_appending(&mut random, MANY);
     let mut records = reading.records.clone();
     let mut frame = appending.frame.clone();
-    std::thread::scope(|scope| {
-        let call = || {
-            assert_eq!(probe::check_frames(&reading.file), Answer::DONE);
-            let answer = probe::read_frames(&reading.key, &reading.file, &mut records);
-            assert_eq!(answer, Answer::DONE);
-            let Appending {
-                key,
-                record,
-                iv,
-                file,
-                ..
-            } = &appending;
-            let answer = probe::append(key, record, iv, file, &mut frame);
-            assert_eq!(answer, Answer::DONE);
-        };
-        let thread = std::thread::Builder::new().stack_size(STACK);
-        let thread = thread.spawn_scoped(scope, call).expect("a thread");
-        thread.join().expect("the calls end well");
+    on_stack(STACK, || {
+        assert_eq!(probe::check_frames(&reading.file), Answer::DONE);
+        let answer = probe::read_frames(&reading.key, &reading.file, &mut records);
+        assert_eq!(answer, Answer::DONE);
+        let Appending {
+            key,
+            record,
+            iv,
+            file,
+            ..
+        } = &appending;
+        let answer = probe::append(key, record, iv, file, &mut frame);
+        assert_eq!(answer, Answer::DONE);
     });
     assert!(records[..RECORD * MANY] == records_of(&reading.key, &reading.file));
     assert_eq!(frame[..FRAME], appending.expected());
@@ -941,7 +896,7 @@ fn small_stack() {
 fn there_and_back(record: &[u8]) {
     let taken = fields(record);
     assert_eq!(taken.answer, Answer::DONE);
-    assert_eq!(taken.fields, definitions::port_fields(record));
+    assert_eq!(taken.fields, port_fields(record));
     let (put, result) = bits(&taken.fields, &[9; 66]);
     assert_eq!((put.answer, put.too_large), (Answer::DONE, 0));
     assert_eq!(result[..64], *record);
@@ -1015,7 +970,7 @@ fn values_of_fields() {
 
 fn put(values: &frames::Fields, room: usize) {
     let (put, result) = bits(values, &vec![9; room]);
-    let answer = match (definitions::port_bits(*values), room < 64) {
+    let answer = match (port_bits(*values), room < 64) {
         (Err(number), _) => (Answer::DONE, number),
         (_, true) => (refusal(8, 1, room), 0),
         (Ok(record), _) => {

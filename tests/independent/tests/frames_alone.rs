@@ -1,20 +1,19 @@
 //! Holds the Rust program for the file of port records to a worked frame, to
 //! values found by hand and to the definitions. The library is not called.
 
-use independent::definitions;
-use independent::frame_cases::{self, iv_bits, least, Appending, FileFault, FILE_FAULTS, LISTS};
+use independent::definitions::frames::{bytes_of, check_conditions, frame, port_bits, port_fields};
+use independent::definitions::least;
+use independent::frame_cases::{self, iv_bits, Appending, FileFault, Reading, FILE_FAULTS, LISTS};
 use independent::frames::{self, append, append_after, check, read, Put, FRAME, RECORD};
+use independent::key::lent_key;
 use independent::kreyvium::{self, first_bits, first_word, pack, pack_half, unpack, Rounds};
-use independent::netlist::Answer;
+use independent::netlist::{refusal, Answer};
 use independent::random::{bits, fill, seeded, Random};
-use std::collections::BTreeMap;
+use independent::tally::Tally;
+use independent::worked;
 
 /// Random appendings, and random readings.
 const CASES: usize = 10_000;
-
-fn refusal(number: u32, list: u32, place: usize) -> Answer {
-    Answer::new(number, list, place)
-}
 
 // ---- words ----
 
@@ -24,14 +23,14 @@ fn words_of_bits() {
     for _ in 0..1_000 {
         let key: [u8; 128] = bits(&mut random, 128).try_into().expect("128");
         let iv: [u8; 128] = bits(&mut random, 128).try_into().expect("128");
-        let bytes: [u8; 16] = definitions::bytes_of(&iv).try_into().expect("16");
+        let bytes: [u8; 16] = bytes_of(&iv).try_into().expect("16");
         assert_eq!(pack(&iv), u128::from_be_bytes(bytes));
         assert_eq!(iv_bits(pack(&iv)), iv);
         let half: [u8; 64] = *iv.first_chunk().expect("64");
         assert_eq!(u128::from(pack_half(&half)), pack(&iv) >> 64);
         assert_eq!(unpack(pack_half(&half).reverse_bits()), half);
         let word = first_word(pack(&key), pack(&iv));
-        assert_eq!(unpack(word), first_bits(&key, &iv));
+        assert_eq!(unpack(word), first_bits(pack(&key), pack(&iv)));
         let mut rounds = Rounds::packed(pack(&key), pack(&iv));
         let mut others = Rounds::new(&key, &iv);
         for _ in 0..=kreyvium::SILENT / 64 {
@@ -48,26 +47,23 @@ fn words_of_bits() {
 
 // ---- frames ----
 
-/// Key, IV and record all 0: the published keystream 26DCF1F4BC0F1922, whose
-/// bytes have their lowest bit first, turned round.
-const WORKED: [u8; FRAME] = *b"PT\0\0\0\0\0\0\0\0\0\0\0\0\0\0\0\0\x64\x3B\x8F\x2F\x3D\xF0\x98\x44";
-
+/// Key, IV and record all 0: the bits of the published keystream.
 #[test]
 fn worked_frame() {
-    let published: [u8; 8] = [0x26, 0xDC, 0xF1, 0xF4, 0xBC, 0x0F, 0x19, 0x22];
-    assert_eq!(published.map(u8::reverse_bits), WORKED[18..]);
-    let (zeros, record) = ([0; 128], [0; 64]);
-    assert_eq!(definitions::frame(&zeros, &record, &zeros), WORKED);
+    let published = worked::KEYSTREAM.map(u8::reverse_bits);
+    assert_eq!(published, worked::FRAME[18..]);
+    let (key, record, iv) = (lent_key(&[0; 128]), [0; 64], [0; 128]);
+    assert_eq!(frame(&key, &record, &iv), worked::FRAME);
     for call in [append, append_after] {
         let mut frame = [9; FRAME + 1];
-        let answer = call(&zeros, &record, &zeros, &[], &mut frame);
+        let answer = call(&key, &record, &iv, &[], &mut frame);
         assert_eq!(answer, Answer::DONE);
-        assert_eq!(frame[..FRAME], WORKED);
+        assert_eq!(frame[..FRAME], worked::FRAME);
         assert_eq!(frame[FRAME], 9);
     }
-    assert_eq!(check(&WORKED), Answer::DONE);
+    assert_eq!(check(&worked::FRAME), Answer::DONE);
     let mut records = [9; RECORD + 1];
-    assert_eq!(read(&zeros, &WORKED, &mut records), Answer::DONE);
+    assert_eq!(read(&key, &worked::FRAME, &mut records), Answer::DONE);
     assert_eq!(records[..RECORD], record);
     assert_eq!(records[RECORD], 9);
 }
@@ -75,35 +71,35 @@ fn worked_frame() {
 /// Where the bits of IV and record go.
 #[test]
 fn single_bits() {
-    let (zeros, record) = ([0; 128], [0; 64]);
+    let (key, record, zeros) = (lent_key(&[0; 128]), [0; 64], [0; 128]);
     for place in 0..128 {
         let mut iv = zeros;
         iv[place] = 1;
-        let mut frame = [9; FRAME];
-        append(&zeros, &record, &iv, &[], &mut frame);
+        let mut written = [9; FRAME];
+        append(&key, &record, &iv, &[], &mut written);
         let mut expected = [0; 16];
         expected[place / 8] = 0x80 >> (place % 8);
-        assert_eq!(frame[2..18], expected);
-        assert_eq!(frame[..], definitions::frame(&zeros, &record, &iv));
+        assert_eq!(written[2..18], expected);
+        assert_eq!(written[..], frame(&key, &record, &iv));
     }
     for place in 0..64 {
         let mut record = record;
         record[place] = 1;
         let mut frame = [9; FRAME];
-        append(&zeros, &record, &zeros, &[], &mut frame);
-        let mut expected = WORKED;
+        append(&key, &record, &zeros, &[], &mut frame);
+        let mut expected = worked::FRAME;
         expected[18 + place / 8] ^= 0x80 >> (place % 8);
         assert_eq!(frame, expected);
         let mut records = [9; RECORD];
-        assert_eq!(read(&zeros, &frame, &mut records), Answer::DONE);
+        assert_eq!(read(&key, &frame, &mut records), Answer::DONE);
         assert_eq!(records, record);
     }
 }
 
 #[test]
 fn answers_by_hand() {
-    let (zeros, record) = ([0; 128], [0; 64]);
-    let framed = |iv: u128| definitions::frame(&zeros, &record, &iv_bits(iv));
+    let (key, record) = (lent_key(&[0; 128]), [0; 64]);
+    let framed = |iv: u128| frame(&key, &record, &iv_bits(iv));
     let file = [framed(3), framed(4), framed(4), framed(9)].concat();
     assert_eq!(check(&file), refusal(16, 1, 52));
     assert_eq!(check(&file[..52]), Answer::DONE);
@@ -112,12 +108,12 @@ fn answers_by_hand() {
     assert_eq!(check(&file[1..]), refusal(15, 1, 0));
     assert_eq!(check(&[]), Answer::DONE);
     let mut records = [9; 200];
-    assert_eq!(read(&zeros, &file, &mut records), refusal(16, 2, 52));
+    assert_eq!(read(&key, &file, &mut records), refusal(16, 2, 52));
     assert_eq!(
-        read(&zeros, &file[..52], &mut records[..127]),
+        read(&key, &file[..52], &mut records[..127]),
         refusal(8, 3, 127)
     );
-    assert_eq!(read(&zeros, &[], &mut []), Answer::DONE);
+    assert_eq!(read(&key, &[], &mut []), Answer::DONE);
     assert_eq!(records, [9; 200]);
 
     let mut frame = [9; FRAME];
@@ -130,17 +126,17 @@ fn answers_by_hand() {
         (u128::MAX, Answer::DONE),
     ] {
         let iv = iv_bits(iv);
-        assert_eq!(append(&zeros, &record, &iv, sound, &mut frame), expected);
-        let answer = append(&zeros, &record, &iv, &file, &mut frame);
+        assert_eq!(append(&key, &record, &iv, sound, &mut frame), expected);
+        let answer = append(&key, &record, &iv, &file, &mut frame);
         assert_eq!(answer, refusal(16, 4, 52));
         let last = &sound[FRAME..];
         let expected = match expected {
             Answer::DONE => expected,
             _ => refusal(16, 4, 26),
         };
-        let answer = append_after(&zeros, &record, &iv, last, &mut frame);
+        let answer = append_after(&key, &record, &iv, last, &mut frame);
         assert_eq!(answer, expected);
-        let answer = append_after(&zeros, &record, &iv, sound, &mut frame);
+        let answer = append_after(&key, &record, &iv, sound, &mut frame);
         assert_eq!(answer, refusal(3, 4, 52));
     }
 }
@@ -184,18 +180,21 @@ fn damage(random: &mut Random, appending: &mut Appending) {
     }
 }
 
+/// What such a call can answer.
+const NUMBERS: [u32; 6] = [0, 3, 4, 8, 15, 16];
+
 #[test]
 fn random_appendings() {
     let mut random = seeded(602);
-    let mut numbers = BTreeMap::new();
+    let mut numbers = Tally::default();
     for _ in 0..CASES {
         let frames = frame_cases::size(&mut random);
         let mut case = frame_cases::sound_appending(&mut random, frames);
         damage(&mut random, &mut case);
-        let mut last = case.clone();
-        if random.chance(90) {
-            last.file.drain(..case.file.len().saturating_sub(FRAME));
-        }
+        let last = match random.chance(90) {
+            true => case.after_last(),
+            false => case.clone(),
+        };
         for (case, last_alone) in [(&case, false), (&last, true)] {
             let call = if last_alone { append_after } else { append };
             let expected = least(&case.conditions(last_alone));
@@ -208,21 +207,19 @@ fn random_appendings() {
             } else {
                 assert_eq!(frame, case.frame);
             }
-            *numbers.entry((answer.number, last_alone)).or_insert(0) += 1;
+            numbers.see((last_alone, answer.number));
         }
     }
-    for number in [0, 3, 4, 8, 15, 16] {
-        for last_alone in [false, true] {
-            let seen = numbers.get(&(number, last_alone)).copied().unwrap_or(0);
-            assert!(seen > CASES / 100, "{number} came up {seen} times");
-        }
+    for last_alone in [false, true] {
+        let each = NUMBERS.map(|number| (last_alone, number));
+        numbers.assert_each(each, CASES / 100 + 1);
     }
 }
 
 #[test]
 fn random_readings() {
     let mut random = seeded(603);
-    let mut numbers = BTreeMap::new();
+    let mut numbers = Tally::default();
     for _ in 0..CASES {
         let frames = frame_cases::size(&mut random);
         let mut appending = frame_cases::sound_appending(&mut random, frames);
@@ -231,13 +228,12 @@ fn random_readings() {
         let room = 64 * (file.len() / FRAME) + random.pick(&[0, 0, 1, 64]);
         let room = room.saturating_sub(random.pick(&[0, 0, 0, 1, 64]));
         let records = fill(&mut random, room);
-        let case = frame_cases::Reading { key, file, records };
+        let case = Reading { key, file, records };
         let expected = least(&case.conditions());
         let mut records = case.records.clone();
         let answer = read(&case.key, &case.file, &mut records);
         assert_eq!(answer, expected, "{case:?}");
-        let held = definitions::check_conditions(1, &case.file);
-        assert_eq!(check(&case.file), least(&held));
+        assert_eq!(check(&case.file), least(&check_conditions(1, &case.file)));
         if answer == Answer::DONE {
             let expected = case.expected();
             assert!(records[..expected.len()] == expected);
@@ -245,12 +241,9 @@ fn random_readings() {
         } else {
             assert!(records == case.records);
         }
-        *numbers.entry(answer.number).or_insert(0) += 1;
+        numbers.see(answer.number);
     }
-    for number in [0, 3, 4, 8, 15, 16] {
-        let seen = numbers.get(&number).copied().unwrap_or(0);
-        assert!(seen > CASES / 100, "{number} came up {seen} times");
-    }
+    numbers.assert_each(NUMBERS, CASES / 100 + 1);
 }
 
 /// Each IV compared with each: numbers that differ in one bit or one byte, and
@@ -272,7 +265,7 @@ fn pairs_of_ivs() {
                 false => refusal(16, 1, FRAME),
             };
             assert_eq!(check(&file), expected, "{one} and {other}");
-            assert_eq!(least(&definitions::check_conditions(1, &file)), expected);
+            assert_eq!(least(&check_conditions(1, &file)), expected);
         }
     }
 }
@@ -286,7 +279,7 @@ fn fields_by_hand() {
         .map(|bit| bit - b'0')
         .collect();
     let values = [4_711, 1, 0, 70_000, 0];
-    assert_eq!(definitions::port_fields(&record), values);
+    assert_eq!(port_fields(&record), values);
     let taken = frames::fields(&record);
     assert_eq!((taken.answer, taken.fields), (Answer::DONE, values));
     let mut result = [9; 65];
@@ -308,7 +301,7 @@ fn fields_by_hand() {
         }
         let put = frames::bits(&values, &mut []);
         assert_eq!((put.answer, put.too_large), (Answer::DONE, number as u32));
-        assert_eq!(definitions::port_bits(values), Err(number as u32));
+        assert_eq!(port_bits(values), Err(number as u32));
     }
     let short = frames::bits(&values, &mut [9; 63]);
     assert_eq!((short.answer, short.too_large), (refusal(8, 1, 63), 0));
@@ -324,8 +317,8 @@ fn fields_both_ways() {
         let record = bits(&mut random, 64);
         let taken = frames::fields(&record);
         assert_eq!(taken.answer, Answer::DONE);
-        assert_eq!(taken.fields, definitions::port_fields(&record));
-        assert_eq!(definitions::port_bits(taken.fields), Ok(record.clone()));
+        assert_eq!(taken.fields, port_fields(&record));
+        assert_eq!(port_bits(taken.fields), Ok(record.clone()));
         let mut result = [9; 64];
         frames::bits(&taken.fields, &mut result);
         assert_eq!(result[..], record);
@@ -333,7 +326,7 @@ fn fields_both_ways() {
         let mut values = taken.fields;
         let field = random.below(5);
         values[field] ^= 1 << random.below(32);
-        let due = definitions::port_bits(values).err().unwrap_or(0);
+        let due = port_bits(values).err().unwrap_or(0);
         assert_eq!(frames::bits(&values, &mut result).too_large, due);
     }
 }

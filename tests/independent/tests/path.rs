@@ -2,113 +2,24 @@
 //! and damaged, and compares the answer and every lent list. What the steps make
 //! is held to their definitions, and the scores to those of the plain record.
 
-use independent::both::{evaluate, glued, run};
+use independent::both;
+use independent::both::netlist::{evaluate, glued, run};
+use independent::both::path::Scored;
 use independent::cases;
 use independent::cipher_cases;
 use independent::definitions;
-use independent::lent::{show, Lent};
-use independent::netlist::{length, Answer, MAX_GATES};
-use independent::path::{self, Read, Rooms};
-use independent::path_cases::{self, Path, FAULTS, ROOMS};
+use independent::netlist::{length, Answer, Counts, MAX_GATES};
+use independent::path::Rooms;
+use independent::path_cases::{self, faults, Path, ROOMS};
 use independent::probe;
 use independent::random::{bits, seeded};
+use independent::stack::on_stack;
 use independent::tally::Tally;
 
-/// What a path left behind.
-struct Scored {
-    answer: Answer,
-    enciphered: Vec<u8>,
-    deciphering: Vec<u32>,
-    glued: Vec<u32>,
-    inputs: Vec<u8>,
-    wires: Vec<u8>,
-    scores: Vec<u8>,
-}
-
+/// Hands a path to both programs; where it is done, each room is as it has to
+/// be.
 fn score(path: &Path) -> Scored {
-    let call = &path.emission.call;
-    let (instance, m) = (call.instance, call.m);
-    let case = || {
-        let rooms = [
-            call.result.len(),
-            path.emission.result.len(),
-            path.glued.len(),
-            path.inputs.len(),
-            path.wires.len(),
-            path.scores.len(),
-        ];
-        format!(
-            "path for instance {instance}, m {m}: record {}, scoring {}, rooms {rooms:?}",
-            show(path.emission.record()),
-            show(&path.scoring),
-        )
-    };
-    let read = path.read();
-    let (mut key, mut record) = (Lent::new(read.key), Lent::new(read.record));
-    let (mut indices, mut whitening) = (Lent::new(read.indices), Lent::new(read.whitening));
-    let mut scoring = Lent::new(read.scoring);
-    let mut enciphered = Lent::new(&call.result);
-    let mut deciphering = Lent::new(&path.emission.result);
-    let (mut glued, mut inputs) = (Lent::new(&path.glued), Lent::new(&path.inputs));
-    let (mut wires, mut scores) = (Lent::new(&path.wires), Lent::new(&path.scores));
-    let library = probe::score(
-        instance,
-        m,
-        &Read {
-            key: key.library(),
-            record: record.library(),
-            indices: indices.library(),
-            whitening: whitening.library(),
-            scoring: scoring.library(),
-        },
-        Rooms {
-            enciphered: enciphered.library(),
-            deciphering: deciphering.library(),
-            glued: glued.library(),
-            inputs: inputs.library(),
-            wires: wires.library(),
-            scores: scores.library(),
-        },
-    );
-    let rust = path::score(
-        instance,
-        m,
-        &Read {
-            key: key.rust(),
-            record: record.rust(),
-            indices: indices.rust(),
-            whitening: whitening.rust(),
-            scoring: scoring.rust(),
-        },
-        Rooms {
-            enciphered: enciphered.rust(),
-            deciphering: deciphering.rust(),
-            glued: glued.rust(),
-            inputs: inputs.rust(),
-            wires: wires.rust(),
-            scores: scores.rust(),
-        },
-    );
-    assert_eq!(library, rust, "library, rust; {}", case());
-    key.settle(0, "key", &case);
-    record.settle(0, "record", &case);
-    indices.settle(0, "indices", &case);
-    whitening.settle(0, "whitening bits", &case);
-    scoring.settle(0, "scoring netlist", &case);
-    // A refusal changes nothing.
-    let written = |room| match rust {
-        Answer::DONE => path.need(room),
-        _ => 0,
-    };
-    let scored = Scored {
-        answer: rust,
-        enciphered: enciphered.settle(written(6), "enciphered record", &case),
-        deciphering: deciphering.settle(written(7), "deciphering netlist", &case),
-        glued: glued.settle(written(8), "glued netlist", &case),
-        inputs: inputs.settle(written(9), "inputs", &case),
-        wires: wires.settle(written(10), "wires", &case),
-        scores: scores.settle(written(11), "scores", &case),
-    };
+    let scored = both::path::score(path);
     if scored.answer == Answer::DONE {
         assert_made(path, &scored);
     }
@@ -160,9 +71,9 @@ fn emitted_netlists_score() {
                 assert_eq!(score(&path).scores[..m], *path.emission.record());
             }
             let d = random.between(1, m);
-            let threshold = definitions::threshold_netlist(d, m);
+            let threshold = definitions::netlist::threshold(d, m);
             let path = path_cases::ending(&mut random, instance, m, threshold);
-            let reached = definitions::threshold(path.emission.record(), d);
+            let reached = definitions::filter::threshold(path.emission.record(), d);
             assert_eq!(score(&path).scores[0], reached);
         }
     }
@@ -177,7 +88,7 @@ fn largest_netlist() {
     path.lend(&mut random, cases::nots(2, left));
     let scored = score(&path);
     assert_eq!(scored.answer, Answer::DONE);
-    assert_eq!(scored.glued[1], MAX_GATES as u32);
+    assert_eq!(Counts::of(&scored.glued).gates, MAX_GATES);
     path.lend(&mut random, cases::nots(2, left + 1));
     assert_eq!(score(&path).answer, Answer::TOO_MANY_GATES);
 }
@@ -188,7 +99,7 @@ fn largest_netlist() {
 #[test]
 fn each_fault() {
     let mut random = seeded(504);
-    for fault in FAULTS {
+    for fault in faults() {
         let mut made = 0;
         for instance in cipher_cases::instances() {
             for _ in 0..5 {
@@ -197,9 +108,8 @@ fn each_fault() {
                 if !fault.suits(&path) {
                     continue;
                 }
-                let (number, list, place) = path_cases::inflict(&mut random, &mut path, fault);
-                let expected = Answer::new(number, list, place);
-                assert_eq!(score(&path).answer, expected, "{fault:?}");
+                let held = path_cases::inflict(&mut random, &mut path, fault);
+                assert_eq!(score(&path).answer, held.into(), "{fault:?}");
                 made += 1;
             }
         }
@@ -229,8 +139,9 @@ fn each_fault_of_the_scoring_netlist() {
 #[test]
 fn each_pair_of_faults() {
     let mut random = seeded(506);
-    for (at, &first) in FAULTS.iter().enumerate() {
-        for &second in &FAULTS[at + 1..] {
+    let faults = faults();
+    for (at, &first) in faults.iter().enumerate() {
+        for &second in &faults[at + 1..] {
             let mut path = loop {
                 let (instance, m) = (random.between(1, 6) as u32, random.between(1, 3));
                 let path = path_cases::sound(&mut random, instance, m);
@@ -240,9 +151,8 @@ fn each_pair_of_faults() {
             };
             // What is judged first goes in last: the other needs it sound.
             path_cases::inflict(&mut random, &mut path, second);
-            let (number, list, place) = path_cases::inflict(&mut random, &mut path, first);
-            let expected = Answer::new(number, list, place);
-            assert_eq!(score(&path).answer, expected, "{first:?}, {second:?}");
+            let held = path_cases::inflict(&mut random, &mut path, first);
+            assert_eq!(score(&path).answer, held.into(), "{first:?}, {second:?}");
         }
     }
 }
@@ -254,15 +164,15 @@ fn several_faults() {
     for count in 0..300 {
         let (instance, m) = (random.between(1, 6) as u32, random.between(1, 3));
         let mut path = path_cases::sound(&mut random, instance, m);
-        let mut faults: Vec<_> = FAULTS.into_iter().filter(|f| f.suits(&path)).collect();
+        let mut faults = faults();
+        faults.retain(|fault| fault.suits(&path));
         while count % 10 != 0 && faults.len() > 3 && random.below(6) != 0 {
             faults.remove(random.below(faults.len()));
         }
         // What is judged first goes in last, as above, and is the answer.
         let mut expected = Answer::DONE;
         for &fault in faults.iter().rev() {
-            let (number, list, place) = path_cases::inflict(&mut random, &mut path, fault);
-            expected = Answer::new(number, list, place);
+            expected = path_cases::inflict(&mut random, &mut path, fault).into();
         }
         assert_eq!(score(&path).answer, expected, "{faults:?}");
     }
@@ -274,7 +184,7 @@ fn every_room() {
     let mut random = seeded(507);
     for instance in cipher_cases::instances() {
         let m = random.between(1, 5);
-        let threshold = definitions::threshold_netlist(1, m);
+        let threshold = definitions::netlist::threshold(1, m);
         let mut sound = path_cases::ending(&mut random, instance, m, threshold);
         for room in ROOMS {
             sound.shorten(room, sound.need(room));
@@ -306,12 +216,8 @@ fn random_damage() {
         }
         tally.count(score(&path).answer);
     }
-    for room in ROOMS {
-        tally.assert_seen(8, room, CASES / 100);
-    }
-    for (number, list) in [(0, 0), (9, 5)] {
-        tally.assert_seen(number, list, CASES / 20);
-    }
+    tally.assert_each(ROOMS.map(|room| (8, room)), CASES / 100);
+    tally.assert_each([(0, 0), (9, 5)], CASES / 20);
 }
 
 // ---- at the limits ----
@@ -325,22 +231,17 @@ fn small_stack() {
     for instance in cipher_cases::instances() {
         let sound = path_cases::sound(&mut random, instance, 64);
         let mut path = sound.clone();
-        std::thread::scope(|scope| {
-            let work = || {
-                let rooms = Rooms {
-                    enciphered: &mut path.emission.call.result,
-                    deciphering: &mut path.emission.result,
-                    glued: &mut path.glued,
-                    inputs: &mut path.inputs,
-                    wires: &mut path.wires,
-                    scores: &mut path.scores,
-                };
-                let answer = probe::score(instance, 64, &sound.read(), rooms);
-                assert_eq!(answer, Answer::DONE);
+        on_stack(STACK, || {
+            let rooms = Rooms {
+                enciphered: &mut path.emission.call.result,
+                deciphering: &mut path.emission.result,
+                glued: &mut path.glued,
+                inputs: &mut path.inputs,
+                wires: &mut path.wires,
+                scores: &mut path.scores,
             };
-            let thread = std::thread::Builder::new().stack_size(STACK);
-            let thread = thread.spawn_scoped(scope, work).expect("a thread");
-            thread.join().expect("the call ends well");
+            let answer = probe::score(instance, 64, &sound.read(), rooms);
+            assert_eq!(answer, Answer::DONE);
         });
         let expected = run(&sound.scoring, sound.emission.record());
         assert_eq!(path.scores[..expected.len()], expected);

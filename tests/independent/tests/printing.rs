@@ -2,29 +2,26 @@
 //! and printed text: every netlist that can be asked for, and input that is no
 //! such line.
 
-use independent::lent::{show, Lent};
-use independent::netlist::Answer;
-use independent::printing::{self, printed, Printing, REFUSED};
+use independent::both;
+use independent::lent::show;
+use independent::netlist::{refusal, Answer};
+use independent::printing::{printed, Printing, REFUSED};
 use independent::probe;
 use independent::random::{fill, seeded};
+use independent::stack::on_stack;
+use independent::worked::{PRINTED, REFUSED_INPUT};
 
 /// Has both programs print into that room. Where there is none for the text,
 /// that is answered, and nothing is written.
 fn print(input: &[u8], text: &[u8], room: usize) {
-    let case = || format!("printing for {}, {room} bytes of room", show(input));
     let stale = fill(&mut seeded(400), room);
-    let (mut input, mut result) = (Lent::new(input), Lent::new(&stale));
-    let library = probe::print(input.library(), result.library());
-    let rust = printing::print(input.rust(), result.rust());
-    assert_eq!(library, rust, "library, rust; {}", case());
+    let (printing, _) = both::printing::print(input, &stale);
     let expected = if text.len() <= room {
         done(text.len())
     } else {
         short(room)
     };
-    assert_eq!(library, expected, "{}", case());
-    input.settle(0, "input", &case);
-    result.settle(expected.size, "text", &case);
+    assert_eq!(printing, expected, "printing for {}", show(input));
 }
 
 /// A text of that length.
@@ -35,7 +32,7 @@ fn done(size: usize) -> Printing {
 
 /// That there is no room for the text.
 fn short(room: usize) -> Printing {
-    let answer = Answer::new(8, 2, room);
+    let answer = refusal(8, 2, room);
     Printing { answer, size: 0 }
 }
 
@@ -58,23 +55,13 @@ fn refused(input: &[u8]) -> bool {
 
 #[test]
 fn printed_example() {
-    let expected = "\
-T 2 3
-in 3 gates 5 out 1 depth 2 mult 3
-3 NOT 0
-4 MUX 1 0 3
-5 AND 0 1
-6 AND 4 2
-7 XOR 6 5
-out 7
-";
-    let length = expected.len();
+    let length = PRINTED.len();
     let mut result = [9; 100];
     let room = &mut result[..length - 1];
     assert_eq!(probe::print(b"2 3\n", room), short(length - 1));
     assert_eq!(result, [9; 100]);
     assert_eq!(probe::print(b"2 3\n", &mut result), done(length));
-    assert_eq!(result[..length], *expected.as_bytes());
+    assert_eq!(result[..length], *PRINTED.as_bytes());
     assert_eq!(result[length..], [9; 100][length..]);
     let refused = done(REFUSED.len());
     assert_eq!(probe::print(b"3 2\n2\n", &mut result), refused);
@@ -82,7 +69,7 @@ out 7
     // The text before is still there after that.
     assert_eq!(
         result[REFUSED.len()..length],
-        expected.as_bytes()[REFUSED.len()..]
+        PRINTED.as_bytes()[REFUSED.len()..]
     );
 }
 
@@ -133,83 +120,7 @@ fn every_room() {
 
 #[test]
 fn lines_that_are_refused() {
-    for input in [
-        // No newline, or not one alone at the end.
-        "",
-        "2 3",
-        "\n",
-        "\n2 3\n",
-        "2 3\n\n",
-        "2 3\r\n",
-        "2 3\r",
-        "2 3\n ",
-        "2\n3\n",
-        "2 3\0",
-        "2 3\0\n",
-        "2 3\n\0",
-        // A second line.
-        "2 3\n2 3\n",
-        "2 3\n2 3",
-        "1 1\nrefused 13\n",
-        // Spaces.
-        "2  3\n",
-        " 2 3\n",
-        "2 3 \n",
-        "2 \n",
-        " 3\n",
-        " \n",
-        "  \n",
-        "23\n",
-        "2\t3\n",
-        "2,3\n",
-        "2\u{a0}3\n",
-        "2 3 4\n",
-        // Needless zeros.
-        "02 3\n",
-        "2 03\n",
-        "00 3\n",
-        "2 00\n",
-        "002 3\n",
-        "2 003\n",
-        "000 000\n",
-        "01 01\n",
-        // Four digits and more.
-        "1000 3\n",
-        "2 1000\n",
-        "0002 3\n",
-        "2 0003\n",
-        "4294967298 3\n",
-        "2 4294967299\n",
-        "18446744073709551618 3\n",
-        "2 18446744073709551619\n",
-        // Signs, and other bytes.
-        "+2 3\n",
-        "2 +3\n",
-        "-2 3\n",
-        "2 -3\n",
-        "2. 3\n",
-        "2 3.\n",
-        "0x2 3\n",
-        "a b\n",
-        "2 3x\n",
-        "x2 3\n",
-        "２ ３\n",
-        "/ 3\n",
-        ": 3\n",
-        "2 /\n",
-        "2 :\n",
-        // No such netlist.
-        "0 0\n",
-        "0 3\n",
-        "2 0\n",
-        "5 3\n",
-        "66 64\n",
-        "1 65\n",
-        "65 65\n",
-        "999 999\n",
-        "258 3\n",
-        "2 259\n",
-    ] {
+    for input in REFUSED_INPUT {
         assert!(refused(input.as_bytes()), "{input:?}");
         in_every_room(input.as_bytes());
     }
@@ -323,11 +234,8 @@ fn small_stack() {
     const STACK: usize = 512 * 1024;
     let text = printed(b"32 64\n");
     let mut result = vec![9; text.len()];
-    std::thread::scope(|scope| {
-        let call = || assert_eq!(probe::print(b"32 64\n", &mut result), done(text.len()));
-        let thread = std::thread::Builder::new().stack_size(STACK);
-        let thread = thread.spawn_scoped(scope, call).expect("a thread");
-        thread.join().expect("the call ends well");
+    on_stack(STACK, || {
+        assert_eq!(probe::print(b"32 64\n", &mut result), done(text.len()));
     });
     assert!(result == text);
 }

@@ -1,9 +1,10 @@
 //! Holds the printing program in Rust to the printed example and, read back,
 //! to the definition of the netlists. The library is not called.
 
-use independent::definitions;
-use independent::netlist::{ARITY, HEADER};
+use independent::definitions::netlist::{threshold, threshold_costs};
+use independent::netlist::{Counts, ARITY, HEADER_WORDS};
 use independent::printing::{printed, NAMES, REFUSED};
+use independent::worked::{PRINTED, REFUSED_INPUT};
 
 fn text(input: &str) -> String {
     String::from_utf8(printed(input.as_bytes())).expect("the text is plain")
@@ -11,17 +12,7 @@ fn text(input: &str) -> String {
 
 #[test]
 fn printed_example() {
-    let expected = "\
-T 2 3
-in 3 gates 5 out 1 depth 2 mult 3
-3 NOT 0
-4 MUX 1 0 3
-5 AND 0 1
-6 AND 4 2
-7 XOR 6 5
-out 7
-";
-    assert_eq!(text("2 3\n"), expected);
+    assert_eq!(text("2 3\n"), PRINTED);
 }
 
 #[test]
@@ -93,65 +84,30 @@ fn every_netlist() {
                 assert_eq!(text, REFUSED);
                 continue;
             }
-            let net = definitions::threshold_netlist(d, n);
-            let (multiplications, depth) = definitions::threshold_costs(d, n);
+            let net = threshold(d, n);
+            let Counts {
+                inputs,
+                gates,
+                outputs,
+            } = Counts::of(&net);
+            let (multiplications, depth) = threshold_costs(d, n);
             assert!(text.ends_with('\n'));
             let lines: Vec<&str> = text.lines().collect();
             assert_eq!(lines[0], format!("T {d} {n}"));
             assert_eq!(
                 lines[1],
                 format!(
-                    "in {} gates {} out {} depth {depth} mult {multiplications}",
-                    net[0], net[1], net[2]
+                    "in {inputs} gates {gates} out {outputs} depth {depth} mult {multiplications}"
                 )
             );
-            assert_eq!(read_back(&lines[2..], n), net[HEADER..]);
+            assert_eq!(read_back(&lines[2..], n), net[HEADER_WORDS..]);
         }
     }
 }
 
 #[test]
 fn lines_that_are_refused() {
-    for input in [
-        "",
-        "\n",
-        "2 3",
-        "2  3\n",
-        " 2 3\n",
-        "2 3 \n",
-        "2 3\n\n",
-        "2 3\n2 3\n",
-        "2 3\r\n",
-        "02 3\n",
-        "2 03\n",
-        "00 3\n",
-        "0 3\n",
-        "2 0\n",
-        "5 3\n",
-        "2 65\n",
-        "1000 3\n",
-        "2 1000\n",
-        "0002 3\n",
-        "+2 3\n",
-        "2 -3\n",
-        "2,3\n",
-        "2\t3\n",
-        "2 3 4\n",
-        "2\n",
-        " \n",
-        "2 \n",
-        " 3\n",
-        "a b\n",
-        "2 3x\n",
-        "999 999\n",
-        "2\n3\n",
-        "\n2 3\n",
-        "2 3\0",
-        "2 3\0\n",
-        "258 3\n",
-    ] {
+    for input in REFUSED_INPUT {
         assert_eq!(text(input), REFUSED, "{input:?}");
     }
-    // Digits of another script are none.
-    assert_eq!(text("２ ３\n"), REFUSED);
 }

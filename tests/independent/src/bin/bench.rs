@@ -9,13 +9,14 @@
 
 use independent::cases::{self, Shape};
 use independent::cipher::{self, Search, INSTANCES};
-use independent::cipher_cases::{self, Call};
+use independent::cipher_cases::{self, sized, Call};
 use independent::emission;
 use independent::emission_cases::{self, Emission};
 use independent::file_cases;
 use independent::frame_cases::{self, Appending};
 use independent::frames::{self, FRAME, RECORD};
-use independent::netlist::{self, Answer, Level, Metering, HEADER};
+use independent::key::key_bits;
+use independent::netlist::{self, words_for, Answer, Counts, Level, Metering, GATE_WORDS};
 use independent::path::{self, Read, Rooms};
 use independent::random::{bits, Random};
 use independent::{choice, file, kreyvium, probe};
@@ -69,6 +70,18 @@ struct Mixture {
     reach: usize,
 }
 
+impl Mixture {
+    fn shape(&self, gates: usize) -> Shape {
+        Shape {
+            inputs: INPUTS,
+            gates,
+            outputs: OUTPUTS,
+            weights: self.weights,
+            reach: self.reach,
+        }
+    }
+}
+
 const MIXTURES: [Mixture; 2] = [
     Mixture {
         name: "mixed",
@@ -97,13 +110,7 @@ struct Load {
 impl Load {
     fn new(random: &mut Random, mixture: &Mixture, gates: usize) -> Self {
         let count = GATES_PER_SAMPLE / gates;
-        let shape = Shape {
-            inputs: INPUTS,
-            gates,
-            outputs: OUTPUTS,
-            weights: mixture.weights,
-            reach: mixture.reach,
-        };
+        let shape = mixture.shape(gates);
         let first = Shape {
             gates: gates / 2,
             outputs: INPUTS,
@@ -123,7 +130,7 @@ impl Load {
             outputs: vec![0; OUTPUTS],
             depths: vec![0; INPUTS + gates],
             levels: vec![Level::EMPTY; gates + 1],
-            glued: vec![0; HEADER + 4 * gates + OUTPUTS],
+            glued: vec![0; words_for(gates, OUTPUTS)],
         }
     }
 }
@@ -310,6 +317,16 @@ fn time_calls(calls: &mut [Timed], failed: &mut usize) -> Vec<f64> {
     samples.into_iter().map(median).collect()
 }
 
+/// Both programs' nanoseconds for a call that has to be done.
+fn time_both(programs: [&mut dyn FnMut() -> Answer; 2], failed: &mut usize) -> [f64; 2] {
+    let mut calls = programs.map(|call| Timed {
+        call,
+        expected: Answer::DONE,
+    });
+    let times = time_calls(&mut calls, failed);
+    [times[0], times[1]]
+}
+
 /// A line of the table: what is called, and how it is done in Rust.
 struct Line {
     call: &'static str,
@@ -426,7 +443,7 @@ fn encipher(random: &mut Random, instance: u32, table: &mut Table) {
 
 fn encipher_kreyvium(random: &mut Random, table: &mut Table) {
     let call = cipher_cases::sound(random, 6, BITS, true);
-    let key = call.key.as_slice().try_into().expect("128 key bits");
+    let key = key_bits(&call.key);
     let iv = call.whitening.as_slice().try_into().expect("128 IV bits");
     let (mut library, mut rust, mut stream) = ([0; BITS], [0; BITS], [0; BITS]);
     table.compare(
@@ -439,7 +456,7 @@ fn encipher_kreyvium(random: &mut Random, table: &mut Table) {
                 by_rust(&call, &mut rust, cipher::by_marks)
             }),
             ("round by round, unjudged", &mut || {
-                kreyvium::by_recurrences(black_box(key), black_box(iv), black_box(&mut stream));
+                kreyvium::by_recurrences(black_box(&key), black_box(iv), black_box(&mut stream));
                 Answer::DONE
             }),
         ],
@@ -571,15 +588,16 @@ struct Path {
 impl Path {
     fn new(emission: &Emission, scoring: &[u32]) -> Self {
         let words = emission.words();
-        let gates = (words - HEADER - BITS) / 4 + scoring[1] as usize;
-        let inputs = emission.call.key.len() + BITS;
+        let scoring = Counts::of(scoring);
+        let gates = (words - words_for(0, BITS)) / GATE_WORDS + scoring.gates;
+        let inputs = sized(emission.call.instance).key + BITS;
         Path {
             enciphered: vec![0; BITS],
             deciphering: vec![0; words],
-            glued: vec![0; HEADER + 4 * gates + scoring[2] as usize],
+            glued: vec![0; words_for(gates, scoring.outputs)],
             inputs: vec![0; inputs],
             values: vec![0; inputs + gates],
-            score: vec![0; scoring[2] as usize],
+            score: vec![0; scoring.outputs],
         }
     }
 
@@ -668,13 +686,7 @@ fn files(random: &mut Random) {
     println!("netlist  call           library         rust    ratio   library MB/s      rust MB/s");
     let mut failed = 0;
     for mixture in &MIXTURES {
-        let shape = Shape {
-            inputs: INPUTS,
-            gates: FILE_GATES,
-            outputs: OUTPUTS,
-            weights: mixture.weights,
-            reach: mixture.reach,
-        };
+        let shape = mixture.shape(FILE_GATES);
         let file_cases::Reading { words, source, .. } = file_cases::sound(random, &shape);
         let mut read = [(); 2].map(|()| vec![0; words.len()]);
         let mut written = [(); 2].map(|()| vec![0; source.len()]);
@@ -703,19 +715,15 @@ fn files(random: &mut Random) {
             ),
         ];
         for (name, programs) in calls {
-            let mut calls = programs.map(|call| Timed {
-                call,
-                expected: Answer::DONE,
-            });
-            let times = time_calls(&mut calls, &mut failed);
+            let [library, rust] = time_both(programs, &mut failed);
             println!(
                 "{:<8} {name:<9} {:>12.0} {:>12.0} {:>8.2} {:>14.0} {:>14.0}",
                 mixture.name,
-                times[0],
-                times[1],
-                times[0] / times[1],
-                rate(source.len(), times[0]),
-                rate(source.len(), times[1])
+                library,
+                rust,
+                library / rust,
+                rate(source.len(), library),
+                rate(source.len(), rust)
             );
         }
         failed += read.iter().filter(|&read| *read != words).count();
@@ -743,16 +751,6 @@ fn append(program: Append, case: &Appending, frame: &mut [u8]) -> Answer {
         &case.file,
         black_box(frame),
     )
-}
-
-/// Both programs' nanoseconds for a call that has to be done.
-fn time_both(programs: [&mut dyn FnMut() -> Answer; 2], failed: &mut usize) -> [f64; 2] {
-    let mut calls = programs.map(|call| Timed {
-        call,
-        expected: Answer::DONE,
-    });
-    let times = time_calls(&mut calls, failed);
-    [times[0], times[1]]
 }
 
 fn port_records(random: &mut Random) {

@@ -7,7 +7,10 @@
 use independent::choice;
 use independent::cipher::Instance;
 use independent::frames::{self, FRAME, MARK};
-use independent::netlist::{self, length, Answer, Level, AND, HEADER, MAX_GATES, NOT};
+use independent::key::lent_key;
+use independent::netlist::{
+    self, length, words_for, Answer, Counts, Gate, Metering, AND, MAX_GATES, NOT,
+};
 use independent::path::{self, Read, Rooms};
 use independent::random::{bits, Random};
 
@@ -62,7 +65,7 @@ fn scores(fields: &Fields) -> [(&'static str, bool); 4] {
 /// The netlist of these four scores.
 fn scoring() -> Vec<u32> {
     let (admin, link, errors, load) = (16, 17, 18, 40);
-    let mut gates: Vec<[u32; 4]> = vec![];
+    let mut gates: Vec<Gate> = vec![];
     let mut put = |gate| {
         gates.push(gate);
         (BITS + gates.len() - 1) as u32
@@ -77,9 +80,13 @@ fn scoring() -> Vec<u32> {
         .iter()
         .fold(zeros[0], |all, &zero| put([AND, all, zero, 0]));
     let many = put([NOT, few, 0, 0]);
-    let counts = [BITS as u32, gates.len() as u32, 4];
+    let counts = Counts {
+        inputs: BITS,
+        gates: gates.len(),
+        outputs: 4,
+    };
     [
-        &counts[..],
+        &counts.header()[..],
         gates.as_flattened(),
         &[dead, parked, many, load],
     ]
@@ -89,12 +96,13 @@ fn scoring() -> Vec<u32> {
 /// Name, gates, depth and multiplications of the netlist at the front of a list.
 fn print_costs(name: &str, words: &[u32]) {
     let net = &words[..length(words)];
-    let mut depths = vec![0; (net[0] + net[1]) as usize];
-    let mut levels = vec![Level::EMPTY; net[1] as usize + 1];
-    let metering = netlist::meter(net, &mut depths, &mut levels);
-    assert_eq!(metering.answer, Answer::DONE);
-    let (gates, depth) = (net[1], metering.depth);
-    let multiplications = metering.multiplications;
+    let gates = Counts::of(net).gates;
+    let (metering, _) = netlist::measure(net);
+    let Metering {
+        depth,
+        multiplications,
+        ..
+    } = metering;
     println!("  {name:<32}{gates:>8}{depth:>8}{multiplications:>19}");
 }
 
@@ -116,7 +124,7 @@ fn print_frame(key: &[u8], record: &[u8], iv: &[u8]) {
 fn print_path(number: u32, fields: &Fields, record: &[u8]) {
     let instance = Instance::numbered(number).expect("an instance");
     let mut random = Random::new(u64::from(number));
-    let key = bits(&mut random, instance.key);
+    let key = lent_key(&bits(&mut random, instance.key));
     let mut indices = vec![0; instance.indices(BITS)];
     for row in indices.chunks_exact_mut(instance.row.max(1)) {
         let left = (0..instance.row).map(|i| (instance.key - i) as u64);
@@ -126,7 +134,7 @@ fn print_path(number: u32, fields: &Fields, record: &[u8]) {
     let whitening = bits(&mut random, instance.whitening(BITS));
 
     let scoring = scoring();
-    let words = HEADER + 4 * MAX_GATES + BITS;
+    let words = words_for(MAX_GATES, BITS);
     let mut enciphered = [0; BITS];
     let (mut deciphering, mut glued) = (vec![0; words], vec![0; words]);
     let mut inputs = vec![0; instance.key + BITS];
