@@ -1,5 +1,6 @@
 pub mod Writes
 pub mod Accepted
+pub mod Emission
 pub mod RowsVariables
 pub mod RowsProduct
 pub mod RowsSum

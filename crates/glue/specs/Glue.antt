@@ -10,7 +10,7 @@ use Rattle.answer.specs.Answers.{_▹_, refuse}
 use Rattle.answer.specs.Fronts.{left}
 use Rattle.answer.specs.Judges.{roomAnswer}
 use Rattle.netlist.specs.declared.counts.Counts.{Counts}
-use Rattle.netlist.specs.Words.{countsOf, inputsOf, gatesOf, outputsOf, wordCount, words, netOf}
+use Rattle.netlist.specs.Words.{gatePlace, countsOf, inputsOf, gatesOf, outputsOf, wordCount, words, netOf}
 use Rattle.netlist.specs.Glue.{glue}
 use Rattle.netlist.specs.Check.{gateLimit, netAnswer}
 use Rattle.netlist.specs.Sound.{Sound}
@@ -46,3 +46,13 @@ pub record Fit (a b : List ℕ) (room : ℕ) : Type 0 where
   pub space : gluedSize a b ≤ room
   pub fits : outputsOf a ≡ inputsOf b
   pub few : gatesOf a + gatesOf b ≤ gateLimit
+
+-- three that fit in a row, together within the limit of gates, and room for all
+pub record FitThree (a b c : List ℕ) (n : ℕ) : Type 0 where
+  pub first : Sound a
+  pub second : Sound b
+  pub third : Sound c
+  pub fits : outputsOf a ≡ inputsOf b
+  pub fits′ : outputsOf b ≡ inputsOf c
+  pub few : gatesOf a + gatesOf b + gatesOf c ≤ gateLimit
+  pub space : gatePlace (gatesOf a + gatesOf b + gatesOf c) + outputsOf c ≤ n

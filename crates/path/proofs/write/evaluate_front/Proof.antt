@@ -2,19 +2,19 @@ use mathlib.Core.Path.{sym}
 use native.Mathlib.Omega.{arith}
 use lib.ListN.{take}
 use lib.Seq.{length-take-le}
-use Rattle.path.specs.Steps.{front}
+use Rattle.path.specs.Inner.{front}
 use Rattle.path.proofs.Writing.{front-is, evaluated}
 use borrow.Author.Needs.{needs}
 use Rattle.path.proofs.write.evaluate_front.Statement.{statement}
 use Rattle.path.proofs.write.evaluate_front.Tie as tie
 
-words-of-requires : tie.Need-words-of-requires
-words-of-requires c κs = search needs
+front-size-requires : tie.Need-front-size-requires
+front-size-requires c κs = search needs
 
 slice-aggregate-evaluate : tie.Need-slice-aggregate-evaluate
 slice-aggregate-evaluate c =
     let s = c .before .before .before .before .before .before in
-    sym (length-take-le (c .before .words-of .result) (s .args .glued .now) (omega (arith, c .before .words-of .ensures, s .pre .0)))
+    sym (length-take-le (c .before .front-size .result) (s .args .glued .now) (omega (arith, c .before .front-size .ensures, s .pre .0)))
 
 slice-aggregate-evaluate-2 : tie.Need-slice-aggregate-evaluate-2
 slice-aggregate-evaluate-2 c =
@@ -35,13 +35,13 @@ returns c =
     let e = c .before .before .before .before in
     let s = e .before .before .before .before .before .before .before .before .before .before in
     let a = s .args in
-    evaluated (front (a .glued .now)) (take (a .count) (a .inputs .now)) (a .wires .now) (a .scores .now) (s .pre .2) (rw (front-is _ _ (e .before .before .before .before .before .words-of .ensures)) at (e .evaluate .ensures))
+    evaluated (front (a .glued .now)) (take (a .count) (a .inputs .now)) (a .wires .now) (a .scores .now) (s .pre .2) (rw (front-is _ _ (e .before .before .before .before .before .front-size .ensures)) at (e .evaluate .ensures))
 
 pub evaluate-front-spec : {M : Type 1} → statement M
 evaluate-front-spec =
     tie.close
     (tie.spec
-    words-of-requires
+    front-size-requires
     slice-aggregate-evaluate
     slice-aggregate-evaluate-2
     evaluate-requires
