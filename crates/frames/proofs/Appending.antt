@@ -19,15 +19,17 @@ use Rattle.answer.specs.Choose.{choose}
 use Rattle.answer.specs.Fronts.{over, left}
 use Rattle.answer.proofs.Over.{take-over, made}
 use Rattle.answer.proofs.Rows.{refuse-not, pass}
-use Rattle.answer.specs.Judges.{lengthAnswer, roomAnswer}
+use Rattle.answer.specs.Judges.{lengthAnswer, firstAnswer, roomAnswer}
 use Rattle.answer.proofs.Judges.{done-room}
-use Rattle.port.specs.Bytes.{BitList, digits, unpacked}
+use Rattle.instance.specs.Keys.{Keyed, keyIn, keyLengthAnswer, keyBitsAnswer}
+use Rattle.instance.proofs.Keys.{keyed-length, keyed-bits}
+use Rattle.port.specs.Bytes.{digits, unpacked}
 use Rattle.sequence.specs.Files.{frameSize, start, framesIn, begins, ivNumber, rises, frameAnswer, fileAnswer}
 use Rattle.sequence.proofs.Judged.{begins-marked, begins-there, frame-done, file-done, file-begins, file-rises}
 use Rattle.frames.specs.Frames.{frameOf, ivValue, above, recordsIn, newAnswer, lengthsAnswer, threeBitsAnswer, endAnswer, appendAnswer, lastAnswer, appendAfterAnswer, readAnswer, Appended, AppendedAfter, FramesRead, Rising, fileOf, endToEnd, lastOf, onList, sixteenAt}
-use Rattle.frames.specs.Lent.{Whole}
+use Rattle.frames.specs.Inner.{Whole}
 use Rattle.port.proofs.Digits.{digits-agree, digits-unpacked}
-use Rattle.frames.proofs.Judged.{append-lent, lent-append, lent-read, length-good, bits-good, file-whole, last-none, last-whole}
+use Rattle.frames.proofs.Judged.{append-lent, lent-append, lent-read, file-whole, last-none, last-whole}
 use Rattle.frames.proofs.Places.{frame-length, more-frames, more-file, new-iv, new-records}
 
 -- ---- an answer about another list
@@ -63,39 +65,44 @@ relisted m l s e = sym (file-onList l m s) ∙ ap (onList l) e
 -- ---- a frame that was appended
 
 -- what a call that is done leaves at the front of its room
-pub frame-left : (key rec iv s out : List ℕ) {out′ : List ℕ} → Appended key rec iv s out Done out′ → take frameSize out′ ≡ frameOf key rec iv
+pub frame-left : (key rec iv s out : List ℕ) {out′ : List ℕ} → Appended key rec iv s out Done out′ → take frameSize out′ ≡ frameOf (keyIn 6 key) rec iv
 unfolding left
 frame-left key rec iv s out a =
-    ap (take frameSize) (a .written) ∙ ap (λ (n : ℕ). take n (over (frameOf key rec iv) out)) (sym (frame-length key rec iv)) ∙ take-over (frameOf key rec iv) out
+    let frame = frameOf (keyIn 6 key) rec iv in
+    ap (take frameSize) (a .written) ∙ ap (λ (n : ℕ). take n (over frame out)) (sym (frame-length (keyIn 6 key) rec iv)) ∙ take-over frame out
 
 -- What `append` accepts, put at the file's end, is a file that `read` accepts; it gives the records from before and then the
 -- new one.
 pub append-then-read : (key rec iv s out recs : List ℕ) {r : Answer} {out′ recs′ : List ℕ} → Appended key rec iv s out Done out′
     → FramesRead key (s ++ take frameSize out′) recs r recs′ → 64 * (framesIn s + 1) ≤ length recs
-    → (r ≡ Done) × (recs′ ≡ over (recordsIn key s (framesIn s) ++ rec) recs)
+    → (r ≡ Done) × (recs′ ≡ over (recordsIn (keyIn 6 key) s (framesIn s) ++ rec) recs)
 append-then-read key rec iv s out recs {r} {out′} {recs′} a x h =
     let l = append-lent key rec iv s (length out) (sym (a .answered)) in
     let w = file-whole 4 s (l .file) in
-    let more = s ++ frameOf key rec iv in
+    let bits = keyIn 6 key in
+    let more = s ++ frameOf bits rec iv in
     let y : FramesRead key more recs r recs′ = rw (frame-left key rec iv s out a) at x in
-    let file = more-file s key rec iv w 4 2 (l .file) (l .rise) in
+    let file = more-file s bits rec iv w 4 2 (l .file) (l .rise) in
     let d : r ≡ Done = y .answered ∙ lent-read key more (length recs) record {
-      keyBits = l .keyBits;
+      keyed = l .keyed;
       file = file;
       whole = file-whole 2 more file;
-      room = omega (arith, more-frames s key rec iv w);
+      room = omega (arith, more-frames s bits rec iv w);
     } in
-    (d, y .written ∙ sym (made _ _ d) ∙ ap (λ (t : List ℕ). over t recs) (new-records s key rec iv w (l .recordBits) (l .ivBits)))
+    (d, y .written ∙ sym (made _ _ d) ∙ ap (λ (t : List ℕ). over t recs) (new-records s bits rec iv w (l .recordBits) (l .ivBits)))
 
 -- ---- from nothing
 
 module _ (key : List ℕ) (rec iv : ℕ → List ℕ) where
+  abbrev bits : List ℕ
+  bits = keyIn 6 key
+
   -- the file of the first k of them: k frames in order, the last with the last IV
   record Filed (k : ℕ) : Type 0 where
-    file : fileAnswer 4 (fileOf key rec iv k) ≡ Done
-    frames : framesIn (fileOf key rec iv k) ≡ k
-    records : recordsIn key (fileOf key rec iv k) k ≡ endToEnd rec k
-    last : (j : ℕ) → k ≡ suc j → ivNumber (fileOf key rec iv k) j ≡ ivValue (iv j)
+    file : fileAnswer 4 (fileOf bits rec iv k) ≡ Done
+    frames : framesIn (fileOf bits rec iv k) ≡ k
+    records : recordsIn bits (fileOf bits rec iv k) k ≡ endToEnd rec k
+    last : (j : ℕ) → k ≡ suc j → ivNumber (fileOf bits rec iv k) j ≡ ivValue (iv j)
 
   filed-none : Filed 0
   unfolding fileOf endToEnd recordsIn fileAnswer each
@@ -103,43 +110,43 @@ module _ (key : List ℕ) (rec iv : ℕ → List ℕ) where
 
   module _ (n : ℕ) (g : Rising rec iv n) where
     -- so the next IV is above the last one
-    above-last : (k : ℕ) → k < n → Filed k → above (fileOf key rec iv k) k (iv k) ≡ true
+    above-last : (k : ℕ) → k < n → Filed k → above (fileOf bits rec iv k) k (iv k) ≡ true
     unfolding above
     above-last zero h f = refl
     above-last (suc k) h f =
-        lt-ltb (ivNumber (fileOf key rec iv (suc k)) k) (ivValue (iv (suc k))) (rw (f .last k refl) (g .rise k h))
+        lt-ltb (ivNumber (fileOf bits rec iv (suc k)) k) (ivValue (iv (suc k))) (rw (f .last k refl) (g .rise k h))
 
-    next-done : (k : ℕ) → k < n → Filed k → newAnswer 4 (fileOf key rec iv k) (iv k) ≡ Done
+    next-done : (k : ℕ) → k < n → Filed k → newAnswer 4 (fileOf bits rec iv k) (iv k) ≡ Done
     unfolding newAnswer
     next-done k h f =
-        refuse-not 16 4 _ (ap not (ap (λ (i : ℕ). above (fileOf key rec iv k) i (iv k)) (f .frames) ∙ above-last k h f))
+        refuse-not 16 4 _ (ap not (ap (λ (i : ℕ). above (fileOf bits rec iv k) i (iv k)) (f .frames) ∙ above-last k h f))
 
     filed : (k : ℕ) → k ≤ n → Filed k
     unfolding fileOf endToEnd
     filed zero h = filed-none
     filed (suc k) h =
         let f = filed k (omega arith) in
-        let s = fileOf key rec iv k in
+        let s = fileOf bits rec iv k in
         let w = file-whole 4 s (f .file) in
-        let e : framesIn (s ++ frameOf key (rec k) (iv k)) ≡ suc k = more-frames s key (rec k) (iv k) w ∙ ap (λ (i : ℕ). i + 1) (f .frames) ∙ add-one k in
+        let e : framesIn (s ++ frameOf bits (rec k) (iv k)) ≡ suc k = more-frames s bits (rec k) (iv k) w ∙ ap (λ (i : ℕ). i + 1) (f .frames) ∙ add-one k in
         record {
-          file = more-file s key (rec k) (iv k) w 4 4 (f .file) (next-done k (omega arith) f);
+          file = more-file s bits (rec k) (iv k) w 4 4 (f .file) (next-done k (omega arith) f);
           frames = e;
-          records = ap (recordsIn key (s ++ frameOf key (rec k) (iv k))) (sym e)
-              ∙ new-records s key (rec k) (iv k) w (g .record-bits k (omega arith)) (g .iv-bits k (omega arith))
-              ∙ ap (λ (t : List ℕ). t ++ rec k) (ap (recordsIn key s) (f .frames) ∙ f .records);
+          records = ap (recordsIn bits (s ++ frameOf bits (rec k) (iv k))) (sym e)
+              ∙ new-records s bits (rec k) (iv k) w (g .record-bits k (omega arith)) (g .iv-bits k (omega arith))
+              ∙ ap (λ (t : List ℕ). t ++ rec k) (ap (recordsIn bits s) (f .frames) ∙ f .records);
           last = λ j q.
               let p : j ≡ k = omega arith in
-              ap (ivNumber (s ++ frameOf key (rec k) (iv k))) (p ∙ sym (f .frames)) ∙ new-iv s key (rec k) (iv k) w ∙ ap (λ (i : ℕ). ivValue (iv i)) (sym p);
+              ap (ivNumber (s ++ frameOf bits (rec k) (iv k))) (p ∙ sym (f .frames)) ∙ new-iv s bits (rec k) (iv k) w ∙ ap (λ (i : ℕ). ivValue (iv i)) (sym p);
         }
 
     -- Each of them is accepted behind those before it.
-    pub all-appended : BitList 128 key → (k : ℕ) → k < n → (room : ℕ) → frameSize ≤ room → appendAnswer key (rec k) (iv k) (fileOf key rec iv k) room ≡ Done
+    pub all-appended : Keyed 6 key → (k : ℕ) → k < n → (room : ℕ) → frameSize ≤ room → appendAnswer key (rec k) (iv k) (fileOf bits rec iv k) room ≡ Done
     all-appended b k h room l =
         let f = filed k (omega arith) in
-        lent-append key (rec k) (iv k) (fileOf key rec iv k) room
+        lent-append key (rec k) (iv k) (fileOf bits rec iv k) room
         record {
-          keyBits = b;
+          keyed = b;
           recordBits = g .record-bits k h;
           ivBits = g .iv-bits k h;
           room = l;
@@ -149,17 +156,17 @@ module _ (key : List ℕ) (rec iv : ℕ → List ℕ) where
 
     -- Of the calls: each was lent what the ones before it left, put end to end. From an empty file all are accepted, and
     -- reading gives exactly these records.
-    module _ (b : BitList 128 key) (file room room′ : ℕ → List ℕ) (r : ℕ → Answer) (empty : file 0 ≡ [])
+    module _ (b : Keyed 6 key) (file room room′ : ℕ → List ℕ) (r : ℕ → Answer) (empty : file 0 ≡ [])
         (called : (k : ℕ) → k < n → Appended key (rec k) (iv k) (file k) (room k) (r k) (room′ k))
         (space : (k : ℕ) → k < n → frameSize ≤ length (room k))
         (put : (k : ℕ) → k < n → file (suc k) ≡ file k ++ take frameSize (room′ k)) where
-      accepted : (k : ℕ) → k < n → file k ≡ fileOf key rec iv k → r k ≡ Done
+      accepted : (k : ℕ) → k < n → file k ≡ fileOf bits rec iv k → r k ≡ Done
       accepted k h e =
           called k h .answered
           ∙ ap (λ (s : List ℕ). appendAnswer key (rec k) (iv k) s (length (room k))) e
           ∙ all-appended b k h (length (room k)) (space k h)
 
-      grown : (k : ℕ) → k ≤ n → file k ≡ fileOf key rec iv k
+      grown : (k : ℕ) → k ≤ n → file k ≡ fileOf bits rec iv k
       unfolding fileOf
       grown zero h = empty
       grown (suc k) h =
@@ -174,16 +181,16 @@ module _ (key : List ℕ) (rec iv : ℕ → List ℕ) where
           → (q ≡ Done) × (out′ ≡ over (endToEnd rec n) out)
       appends-then-read out {q} {out′} x h =
           let f = filed n (omega arith) in
-          let s = fileOf key rec iv n in
+          let s = fileOf bits rec iv n in
           let y : FramesRead key s out q out′ = rw (grown n (omega arith)) at x in
           let two = relisted 4 2 s (f .file) in
           let d : q ≡ Done = y .answered ∙ lent-read key s (length out) record {
-            keyBits = b;
+            keyed = b;
             file = two;
             whole = file-whole 2 s two;
             room = omega (arith, f .frames);
           } in
-          (d, y .written ∙ sym (made _ _ d) ∙ ap (λ (t : List ℕ). over t out) (ap (recordsIn key s) (f .frames) ∙ f .records))
+          (d, y .written ∙ sym (made _ _ d) ∙ ap (λ (t : List ℕ). over t out) (ap (recordsIn bits s) (f .frames) ∙ f .records))
 
 -- ---- no IV twice
 
@@ -211,10 +218,10 @@ end-done Done = refl
 end-done (Refused n l p) = refl
 
 -- `check` answers as `read` does with key and room in order, but for the list's number.
-pub check-as-read : (key s : List ℕ) (n : ℕ) → BitList 128 key → 64 * framesIn s ≤ n → readAnswer key s n ≡ onList 2 (fileAnswer 1 s)
+pub check-as-read : (key s : List ℕ) (n : ℕ) → Keyed 6 key → 64 * framesIn s ≤ n → readAnswer key s n ≡ onList 2 (fileAnswer 1 s)
 unfolding readAnswer
 check-as-read key s n b h =
-    passed (length-good 1 128 key b) (passed (bits-good 1 128 key b) (ap (λ (a : Answer). fileAnswer 2 s ▹ a) (done-room 3 n (64 * framesIn s) h) ∙ end-done (fileAnswer 2 s) ∙ sym (file-onList 2 1 s)))
+    passed (keyed-length 1 6 key b) (passed (keyed-bits 1 6 key b) (ap (λ (a : Answer). fileAnswer 2 s ▹ a) (done-room 3 n (64 * framesIn s) h) ∙ end-done (fileAnswer 2 s) ∙ sym (file-onList 2 1 s)))
   where
     passed : {a b c : Answer} → a ≡ Done → b ≡ c → a ▹ b ≡ c
     passed e g = sym (pass e (sym g))
@@ -233,12 +240,12 @@ placed-refuse p n l q true = refl
 placed-refuse p n l q false = refl
 
 lengths-placed : (p : ℕ) (key rec iv : List ℕ) → sixteenAt p (lengthsAnswer key rec iv) ≡ lengthsAnswer key rec iv
-unfolding lengthsAnswer lengthAnswer
+unfolding lengthsAnswer keyLengthAnswer lengthAnswer
 lengths-placed p key rec iv =
     placed-row p _ _ ∙ ap₂ _▹_ (placed-refuse p 3 1 _ _) (placed-row p _ _ ∙ ap₂ _▹_ (placed-refuse p 3 2 _ _) (placed-refuse p 3 3 _ _))
 
 bits-placed : (p : ℕ) (key rec iv : List ℕ) → sixteenAt p (threeBitsAnswer key rec iv) ≡ threeBitsAnswer key rec iv
-unfolding threeBitsAnswer bitsAnswer
+unfolding threeBitsAnswer keyBitsAnswer bitsAnswer firstAnswer
 bits-placed p key rec iv =
     placed-row p _ _ ∙ ap₂ _▹_ (placed-refuse p 4 1 _ _) (placed-row p _ _ ∙ ap₂ _▹_ (placed-refuse p 4 2 _ _) (placed-refuse p 4 3 _ _))
 
@@ -359,4 +366,5 @@ module _ (s : List ℕ) (l : ℕ) (f : fileAnswer l s ≡ Done) where
       → (r ≡ sixteenAt frameSize q) × (o ≡ p)
   after-writes key rec iv out {r} {q} x y =
       let e : r ≡ sixteenAt frameSize q = x .answered ∙ after-as-append key rec iv (length out) ∙ sym (ap (sixteenAt frameSize) (y .answered)) in
-      (e, x .written ∙ ap (λ (a : Answer). left a (frameOf key rec iv) out) e ∙ left-placed q (frameOf key rec iv) out ∙ sym (y .written))
+      let frame = frameOf (keyIn 6 key) rec iv in
+      (e, x .written ∙ ap (λ (a : Answer). left a frame out) e ∙ left-placed q frame out ∙ sym (y .written))

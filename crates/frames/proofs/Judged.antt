@@ -15,12 +15,15 @@ use Rattle.answer.specs.Bits.{bitsAnswer}
 use Rattle.answer.proofs.Rows.{first-done, then-done, both, one-of, two-of, three-of, refuse-done, refuse-not, refuse-yes}
 use Rattle.answer.specs.Judges.{lengthAnswer, roomAnswer}
 use Rattle.answer.proofs.Judges.{length-done, room-done, done-length, done-room, bits-within, bits-done, done-bits}
+use Rattle.instance.specs.Keys.{Keyed}
+use Rattle.instance.proofs.Keys.{keyed-length, keyed-bits, done-keyed}
 use Rattle.port.specs.Bytes.{digits, packed, BitList}
 use Rattle.port.proofs.Digits.{digits-split, digits-packed}
 use Rattle.sequence.specs.Files.{frameSize, start, framesIn, wordAt, ivNumber, fileAnswer}
 use Rattle.sequence.proofs.Judged.{begins-within, word-there, iv-read, file-begins}
 use Rattle.frames.specs.Frames.{ivValue, above, newAnswer, lengthsAnswer, threeBitsAnswer, endAnswer, appendAnswer, lastAnswer, appendAfterAnswer, readAnswer}
-use Rattle.frames.specs.Lent.{Whole, AppendLent, ReadLent}
+use Rattle.frames.specs.Inner.{Whole}
+use Rattle.frames.specs.Lent.{AppendLent}
 
 -- ---- a file
 
@@ -99,10 +102,10 @@ room-enough room len m h =
 bit-list : (l n : ℕ) (s : List ℕ) → lengthAnswer l (length s) n ≡ Done → bitsAnswer l s ≡ Done → BitList n s
 bit-list l n s e f = record { size = length-done l (length s) n e; bit = bits-within s (bits-done l s f) }
 
-pub length-good : (l n : ℕ) (s : List ℕ) → BitList n s → lengthAnswer l (length s) n ≡ Done
+length-good : (l n : ℕ) (s : List ℕ) → BitList n s → lengthAnswer l (length s) n ≡ Done
 length-good l n s b = done-length l (length s) n (b .size)
 
-pub bits-good : (l n : ℕ) (s : List ℕ) → BitList n s → bitsAnswer l s ≡ Done
+bits-good : (l n : ℕ) (s : List ℕ) → BitList n s → bitsAnswer l s ≡ Done
 bits-good l n s b = done-bits l s (λ k h. b .bit k)
 
 pub iv-lent : (key rec iv : List ℕ) {r t : Answer} → r ≡ lengthsAnswer key rec iv → r ≡ Done → t ≡ threeBitsAnswer key rec iv → t ≡ Done → BitList 128 iv
@@ -113,7 +116,7 @@ lent-from : (key rec iv s : List ℕ) (n : ℕ) → lengthsAnswer key rec iv ≡
 unfolding lengthsAnswer threeBitsAnswer endAnswer
 lent-from key rec iv s n l b e =
     record {
-      keyBits = bit-list 1 128 key (one-of _ _ _ l) (one-of _ _ _ b);
+      keyed = done-keyed 1 6 key (one-of _ _ _ l) (one-of _ _ _ b);
       recordBits = bit-list 2 64 rec (two-of _ _ _ l) (two-of _ _ _ b);
       ivBits = bit-list 3 128 iv (three-of _ _ _ l) (three-of _ _ _ b);
       room = room-done 5 n frameSize (three-of _ _ _ e);
@@ -139,12 +142,12 @@ module _ (key rec iv s : List ℕ) (n : ℕ) where
     lengths-lent : lengthsAnswer key rec iv ≡ Done
     unfolding lengthsAnswer
     lengths-lent =
-        both (length-good 1 128 key (a .keyBits)) (both (length-good 2 64 rec (a .recordBits)) (length-good 3 128 iv (a .ivBits)))
+        both (keyed-length 1 6 key (a .keyed)) (both (length-good 2 64 rec (a .recordBits)) (length-good 3 128 iv (a .ivBits)))
 
     bits-lent : threeBitsAnswer key rec iv ≡ Done
     unfolding threeBitsAnswer
     bits-lent =
-        both (bits-good 1 128 key (a .keyBits)) (both (bits-good 2 64 rec (a .recordBits)) (bits-good 3 128 iv (a .ivBits)))
+        both (keyed-bits 1 6 key (a .keyed)) (both (bits-good 2 64 rec (a .recordBits)) (bits-good 3 128 iv (a .ivBits)))
 
     end-lent : endAnswer s iv n ≡ Done
     unfolding endAnswer
@@ -158,12 +161,19 @@ module _ (key rec iv s : List ℕ) (n : ℕ) where
     unfolding appendAfterAnswer
     lent-append-after e = both (both lengths-lent e) (both bits-lent end-lent)
 
+-- a call that reads a file, with n places for its records
+pub record ReadLent (key s : List ℕ) (n : ℕ) : Type 0 where
+  pub keyed : Keyed 6 key
+  pub file : fileAnswer 2 s ≡ Done
+  pub whole : Whole (framesIn s) s
+  pub room : 64 * framesIn s ≤ n
+
 pub read-lent : (key s : List ℕ) (n : ℕ) → readAnswer key s n ≡ Done → ReadLent key s n
 unfolding readAnswer
 read-lent key s n e =
     let t = then-done _ _ e in
     record {
-      keyBits = bit-list 1 128 key (first-done _ _ e) (one-of _ _ _ t);
+      keyed = done-keyed 1 6 key (first-done _ _ e) (one-of _ _ _ t);
       file = two-of _ _ _ t;
       whole = file-whole 2 s (two-of _ _ _ t);
       room = room-done 3 n (64 * framesIn s) (three-of _ _ _ t);
@@ -172,4 +182,4 @@ read-lent key s n e =
 pub lent-read : (key s : List ℕ) (n : ℕ) → ReadLent key s n → readAnswer key s n ≡ Done
 unfolding readAnswer
 lent-read key s n a =
-    both (length-good 1 128 key (a .keyBits)) (both (bits-good 1 128 key (a .keyBits)) (both (a .file) (done-room 3 n (64 * framesIn s) (a .room))))
+    both (keyed-length 1 6 key (a .keyed)) (both (keyed-bits 1 6 key (a .keyed)) (both (a .file) (done-room 3 n (64 * framesIn s) (a .room))))

@@ -20,7 +20,7 @@ use Rattle.port.specs.Bytes.{digits, packed, unpacked, BitList}
 use Rattle.sequence.specs.Files.{byteP, byteT, frameSize, start, framesIn, begins, ivNumber, rises, fileAnswer}
 use Rattle.sequence.proofs.Judged.{begins-marked, begins-there, frame-done, file-done, file-begins, file-rises}
 use Rattle.frames.specs.Frames.{frameOf, ivValue, above, recordIn, recordsIn, newAnswer}
-use Rattle.frames.specs.Lent.{Whole}
+use Rattle.frames.specs.Inner.{Whole}
 use Rattle.port.proofs.Digits.{Agree, digits-agree, binary-bit}
 use Rattle.frames.proofs.Sealing.{packed-length, unpacked-length, sealed-bits, sealed-back}
 use Rattle.frames.proofs.Judged.{new-done}
@@ -44,17 +44,17 @@ unpacked-packed n b h =
     ∙ ap (λ (j : ℕ). getD b j 0) e)
 
 -- ---- a frame by itself
-module _ (key rec iv : List ℕ) where
+module _ (bits rec iv : List ℕ) where
   abbrev sealed : List ℕ
-  sealed = encipherOf 6 64 key rec [] iv
+  sealed = encipherOf 6 64 bits rec [] iv
 
-  pub frame-length : length (frameOf key rec iv) ≡ frameSize
+  pub frame-length : length (frameOf bits rec iv) ≡ frameSize
   unfolding frameOf
   frame-length =
       length-append (byteP ∷ byteT ∷ packed 16 iv) (packed 8 sealed) ∙ ap₂ (λ (a b : ℕ). suc (suc a) + b) (packed-length 16 iv) (packed-length 8 sealed)
 
   -- its IV, from byte 2 on
-  iv-at : Agree (frameOf key rec iv) 2 (packed 16 iv) 0 16
+  iv-at : Agree (frameOf bits rec iv) 2 (packed 16 iv) 0 16
   unfolding frameOf
   iv-at i h =
       let l : 2 + i < length (byteP ∷ byteT ∷ packed 16 iv) = omega (arith, packed-length 16 iv) in
@@ -63,33 +63,33 @@ module _ (key rec iv : List ℕ) where
       ∙ ap (λ (j : ℕ). getD (packed 16 iv) j 0) (sym (zero-add i))
 
   -- its record, from byte 18 on
-  sealed-at : Agree (frameOf key rec iv) 18 (packed 8 sealed) 0 8
+  sealed-at : Agree (frameOf bits rec iv) 18 (packed 8 sealed) 0 8
   unfolding frameOf
   sealed-at i h =
       let e : 18 + i ≡ length (byteP ∷ byteT ∷ packed 16 iv) + i = omega (arith, packed-length 16 iv) in
-      ap (λ (j : ℕ). getD (frameOf key rec iv) j 0) e ∙ getD-append-add (byteP ∷ byteT ∷ packed 16 iv) (packed 8 sealed) i 0 ∙ ap (λ (j : ℕ). getD (packed 8 sealed) j 0) (sym (zero-add i))
+      ap (λ (j : ℕ). getD (frameOf bits rec iv) j 0) e ∙ getD-append-add (byteP ∷ byteT ∷ packed 16 iv) (packed 8 sealed) i 0 ∙ ap (λ (j : ℕ). getD (packed 8 sealed) j 0) (sym (zero-add i))
 
   -- so its bits are the IV's and the enciphered record's, also where something stands behind it
   module _ (old : List ℕ) where
-    left-at : (m n : ℕ) → m + n ≤ frameSize → Agree (over (frameOf key rec iv) old) m (frameOf key rec iv) m n
-    left-at m n g i h = over-at (frameOf key rec iv) old (m + i) (omega (arith, frame-length))
+    left-at : (m n : ℕ) → m + n ≤ frameSize → Agree (over (frameOf bits rec iv) old) m (frameOf bits rec iv) m n
+    left-at m n g i h = over-at (frameOf bits rec iv) old (m + i) (omega (arith, frame-length))
 
-    pub frame-iv : BitList 128 iv → unpacked (over (frameOf key rec iv) old) 2 128 ≡ iv
+    pub frame-iv : BitList 128 iv → unpacked (over (frameOf bits rec iv) old) 2 128 ≡ iv
     frame-iv v =
-        unpacked-agree (over (frameOf key rec iv) old) (packed 16 iv) 2 0 16 (λ i h. left-at 2 16 (omega arith) i h ∙ iv-at i h) ∙ unpacked-packed 16 iv v
+        unpacked-agree (over (frameOf bits rec iv) old) (packed 16 iv) 2 0 16 (λ i h. left-at 2 16 (omega arith) i h ∙ iv-at i h) ∙ unpacked-packed 16 iv v
 
-    pub frame-sealed : length rec ≡ 64 → unpacked (over (frameOf key rec iv) old) 18 64 ≡ sealed
+    pub frame-sealed : length rec ≡ 64 → unpacked (over (frameOf bits rec iv) old) 18 64 ≡ sealed
     frame-sealed l =
-        unpacked-agree (over (frameOf key rec iv) old) (packed 8 sealed) 18 0 8 (λ i h. left-at 18 8 (omega arith) i h ∙ sealed-at i h)
-        ∙ unpacked-packed 8 sealed (sealed-bits key rec iv l)
+        unpacked-agree (over (frameOf bits rec iv) old) (packed 8 sealed) 18 0 8 (λ i h. left-at 18 8 (omega arith) i h ∙ sealed-at i h)
+        ∙ unpacked-packed 8 sealed (sealed-bits bits rec iv l)
 
 -- ---- a file with a frame put at its end
-module _ (s key rec iv : List ℕ) (w : Whole (framesIn s) s) where
+module _ (s bits rec iv : List ℕ) (w : Whole (framesIn s) s) where
   abbrev more : List ℕ
-  more = s ++ frameOf key rec iv
+  more = s ++ frameOf bits rec iv
 
   pub more-length : length more ≡ frameSize * (framesIn s + 1)
-  more-length = length-append s (frameOf key rec iv) ∙ omega (arith, w .size, frame-length key rec iv)
+  more-length = length-append s (frameOf bits rec iv) ∙ omega (arith, w .size, frame-length bits rec iv)
 
   pub more-frames : framesIn more ≡ framesIn s + 1
   more-frames = omega (arith, more-length)
@@ -97,47 +97,47 @@ module _ (s key rec iv : List ℕ) (w : Whole (framesIn s) s) where
   -- what stands in the file before it
   module _ (k : ℕ) (h : k < framesIn s) where
     old-at : (m n : ℕ) → m + n ≤ frameSize → Agree more (start k + m) s (start k + m) n
-    old-at m n g i l = List·getD-append s (frameOf key rec iv) 0 (start k + m + i) (omega (arith, w .size))
+    old-at m n g i l = List·getD-append s (frameOf bits rec iv) 0 (start k + m + i) (omega (arith, w .size))
 
     pub old-iv : ivNumber more k ≡ ivNumber s k
     unfolding ivNumber
     old-iv = digits-agree 256 more s (start k + 2) (start k + 2) 16 (old-at 2 16 (omega arith))
 
-    pub old-record : recordIn key more k ≡ recordIn key s k
+    pub old-record : recordIn bits more k ≡ recordIn bits s k
     unfolding recordIn
     old-record =
-        ap₂ (λ (r v : List ℕ). encipherOf 6 64 key r [] v)
+        ap₂ (λ (r v : List ℕ). encipherOf 6 64 bits r [] v)
         (unpacked-agree more s (start k + 18) (start k + 18) 8 (old-at 18 8 (omega arith)))
         (unpacked-agree more s (start k + 2) (start k + 2) 16 (old-at 2 16 (omega arith)))
 
   -- and the frame itself
-  new-at : (m n : ℕ) → Agree more (start (framesIn s) + m) (frameOf key rec iv) m n
+  new-at : (m n : ℕ) → Agree more (start (framesIn s) + m) (frameOf bits rec iv) m n
   new-at m n i l =
       let e : start (framesIn s) + m + i ≡ length s + (m + i) = omega (arith, w .size) in
-      ap (λ (j : ℕ). getD more j 0) e ∙ getD-append-add s (frameOf key rec iv) (m + i) 0
+      ap (λ (j : ℕ). getD more j 0) e ∙ getD-append-add s (frameOf bits rec iv) (m + i) 0
 
   pub new-iv : ivNumber more (framesIn s) ≡ ivValue iv
   unfolding ivNumber ivValue
   new-iv =
-      digits-agree 256 more (packed 16 iv) (start (framesIn s) + 2) 0 16 (λ i l. new-at 2 16 i l ∙ iv-at key rec iv i l)
+      digits-agree 256 more (packed 16 iv) (start (framesIn s) + 2) 0 16 (λ i l. new-at 2 16 i l ∙ iv-at bits rec iv i l)
 
   -- its record is what was enciphered
-  pub new-record : BitList 64 rec → BitList 128 iv → recordIn key more (framesIn s) ≡ rec
+  pub new-record : BitList 64 rec → BitList 128 iv → recordIn bits more (framesIn s) ≡ rec
   unfolding recordIn
   new-record r v =
-      let e = encipherOf 6 64 key rec [] iv in
-      ap₂ (λ (x y : List ℕ). encipherOf 6 64 key x [] y)
-      (unpacked-agree more (packed 8 e) (start (framesIn s) + 18) 0 8 (λ i l. new-at 18 8 i l ∙ sealed-at key rec iv i l) ∙ unpacked-packed 8 e (sealed-bits key rec iv (r .size)))
-      (unpacked-agree more (packed 16 iv) (start (framesIn s) + 2) 0 16 (λ i l. new-at 2 16 i l ∙ iv-at key rec iv i l) ∙ unpacked-packed 16 iv v)
-      ∙ sealed-back key rec iv r
+      let e = encipherOf 6 64 bits rec [] iv in
+      ap₂ (λ (x y : List ℕ). encipherOf 6 64 bits x [] y)
+      (unpacked-agree more (packed 8 e) (start (framesIn s) + 18) 0 8 (λ i l. new-at 18 8 i l ∙ sealed-at bits rec iv i l) ∙ unpacked-packed 8 e (sealed-bits bits rec iv (r .size)))
+      (unpacked-agree more (packed 16 iv) (start (framesIn s) + 2) 0 16 (λ i l. new-at 2 16 i l ∙ iv-at bits rec iv i l) ∙ unpacked-packed 16 iv v)
+      ∙ sealed-back bits rec iv r
 
-  pub new-records : BitList 64 rec → BitList 128 iv → recordsIn key more (framesIn more) ≡ recordsIn key s (framesIn s) ++ rec
+  pub new-records : BitList 64 rec → BitList 128 iv → recordsIn bits more (framesIn more) ≡ recordsIn bits s (framesIn s) ++ rec
   unfolding recordsIn
   new-records r v =
-      ap (recordsIn key more) (more-frames ∙ add-one (framesIn s))
+      ap (recordsIn bits more) (more-frames ∙ add-one (framesIn s))
       ∙ ap₂ _++_ (olds (framesIn s) (omega arith)) (new-record r v)
     where
-      olds : (n : ℕ) → n ≤ framesIn s → recordsIn key more n ≡ recordsIn key s n
+      olds : (n : ℕ) → n ≤ framesIn s → recordsIn bits more n ≡ recordsIn bits s n
       olds zero h = refl
       olds (suc n) h = ap₂ _++_ (olds n (omega arith)) (old-record n (omega arith))
 
@@ -145,7 +145,7 @@ module _ (s key rec iv : List ℕ) (w : Whole (framesIn s) s) where
   old-begins : (k : ℕ) → k < framesIn s → begins s (start k) ≡ true → begins more (start k) ≡ true
   old-begins k h e =
       let m = begins-marked s (start k) e in
-      let f = frameOf key rec iv in
+      let f = frameOf bits rec iv in
       begins-there more (start k) (omega (arith, more-length))
       (List·getD-append s f 0 (start k) (omega (arith, w .size)) ∙ m .0)
       (List·getD-append s f 0 (start k + 1) (omega (arith, w .size)) ∙ m .1)
@@ -157,8 +157,8 @@ module _ (s key rec iv : List ℕ) (w : Whole (framesIn s) s) where
       let e : p ≡ length s + 0 = omega (arith, w .size) in
       let g : p + 1 ≡ length s + 1 = omega (arith, w .size) in
       begins-there more p (omega (arith, more-length))
-      (ap (λ (j : ℕ). getD more j 0) e ∙ getD-append-add s (frameOf key rec iv) 0 0)
-      (ap (λ (j : ℕ). getD more j 0) g ∙ getD-append-add s (frameOf key rec iv) 1 0)
+      (ap (λ (j : ℕ). getD more j 0) e ∙ getD-append-add s (frameOf bits rec iv) 0 0)
+      (ap (λ (j : ℕ). getD more j 0) g ∙ getD-append-add s (frameOf bits rec iv) 1 0)
 
   old-rises : (k : ℕ) → k < framesIn s → rises more k ≡ rises s k
   unfolding rises

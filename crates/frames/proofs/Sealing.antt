@@ -28,29 +28,29 @@ unfolding packed
 packed-length n b = tab-length _ n
 
 -- enciphering with Kreyvium, in the words of its keystream
-pub kreyvium-of : (key rec iv : List ℕ) → encipherOf 6 64 key rec [] iv ≡ added rec (streamOf key iv 64)
+pub kreyvium-of : (bits rec iv : List ℕ) → encipherOf 6 64 bits rec [] iv ≡ added rec (streamOf bits iv 64)
 unfolding encipherOf keystreamOf
-kreyvium-of key rec iv = refl
+kreyvium-of bits rec iv = refl
 
-pub stream-size : (key iv : List ℕ) → length (streamOf key iv 64) ≡ 64
+pub stream-size : (bits iv : List ℕ) → length (streamOf bits iv 64) ≡ 64
 unfolding streamOf
-stream-size key iv = stream-length 64 _
+stream-size bits iv = stream-length 64 _
 
 -- a record enciphered has its length, and is bits
-pub sealed-bits : (key rec iv : List ℕ) → length rec ≡ 64 → BitList 64 (encipherOf 6 64 key rec [] iv)
-sealed-bits key rec iv l =
-    rw (kreyvium-of key rec iv)
+pub sealed-bits : (bits rec iv : List ℕ) → length rec ≡ 64 → BitList 64 (encipherOf 6 64 bits rec [] iv)
+sealed-bits bits rec iv l =
+    rw (kreyvium-of bits rec iv)
     record {
-      size = added-length rec (streamOf key iv 64) (omega (arith, stream-size key iv)) ∙ l;
-      bit = added-bits rec (streamOf key iv 64);
+      size = added-length rec (streamOf bits iv 64) (omega (arith, stream-size bits iv)) ∙ l;
+      bit = added-bits rec (streamOf bits iv 64);
     }
 
 -- and enciphering it again gives it back
-pub sealed-back : (key rec iv : List ℕ) → BitList 64 rec → encipherOf 6 64 key (encipherOf 6 64 key rec [] iv) [] iv ≡ rec
-sealed-back key rec iv r =
-    kreyvium-of key _ iv
-    ∙ ap (λ (x : List ℕ). added x (streamOf key iv 64)) (kreyvium-of key rec iv)
-    ∙ added-twice rec (streamOf key iv 64) (omega (arith, r .size, stream-size key iv)) (λ i l. r .bit i)
+pub sealed-back : (bits rec iv : List ℕ) → BitList 64 rec → encipherOf 6 64 bits (encipherOf 6 64 bits rec [] iv) [] iv ≡ rec
+sealed-back bits rec iv r =
+    kreyvium-of bits _ iv
+    ∙ ap (λ (x : List ℕ). added x (streamOf bits iv 64)) (kreyvium-of bits rec iv)
+    ∙ added-twice rec (streamOf bits iv 64) (omega (arith, r .size, stream-size bits iv)) (λ i l. r .bit i)
 
 -- ---- writing
 
@@ -70,13 +70,13 @@ packed-halves b =
     halves : packed 16 b ≡ tab (λ k. digits 2 b (8 * k) 8) 8 ++ tab (λ k. digits 2 b (8 * (8 + k)) 8) 8
     halves = tab-add _ 8 8
 
-pub frame-written : (key rec iv : List ℕ) (v0 v1 x : ℕ) → length rec ≡ 64 → tops 64 v0 ≡ take 64 (drop 0 iv) → tops 64 v1 ≡ take 64 (drop 64 iv)
-    → tops 64 x ≡ added (take 64 (drop 0 rec)) (streamOf key iv 64)
-    → markBytes ++ packed 8 (tops 64 v0) ++ packed 8 (tops 64 v1) ++ packed 8 (tops 64 x) ≡ frameOf key rec iv
+pub frame-written : (bits rec iv : List ℕ) (v0 v1 x : ℕ) → length rec ≡ 64 → tops 64 v0 ≡ take 64 (drop 0 iv) → tops 64 v1 ≡ take 64 (drop 64 iv)
+    → tops 64 x ≡ added (take 64 (drop 0 rec)) (streamOf bits iv 64)
+    → markBytes ++ packed 8 (tops 64 v0) ++ packed 8 (tops 64 v1) ++ packed 8 (tops 64 x) ≡ frameOf bits rec iv
 unfolding frameOf
-frame-written key rec iv v0 v1 x l e0 e1 ex =
+frame-written bits rec iv v0 v1 x l e0 e1 ex =
     let r : take 64 (drop 0 rec) ≡ rec = take-all 64 rec (omega arith) in
-    rw (e0, e1, ex, r, ← kreyvium-of key rec iv, packed-halves iv) refl
+    rw (e0, e1, ex, r, ← kreyvium-of bits rec iv, packed-halves iv) refl
 
 -- ---- reading
 
@@ -97,32 +97,32 @@ unpacked-halves s p =
     ∙ ap (λ (t : List ℕ). tab (λ i. bit (getD s (p + i / 8) 0) (7 - i % 8)) 64 ++ t)
     (tab-same _ _ 64 (λ i l. ap₂ (λ (a b : ℕ). bit (getD s a 0) (7 - b)) (omega arith) (omega arith)))
 
-pub record-length : (key s : List ℕ) (k : ℕ) → length (recordIn key s k) ≡ 64
+pub record-length : (bits s : List ℕ) (k : ℕ) → length (recordIn bits s k) ≡ 64
 unfolding recordIn
-record-length key s k = sealed-bits key _ _ (unpacked-length s (start k + 18) 64) .size
+record-length bits s k = sealed-bits bits _ _ (unpacked-length s (start k + 18) 64) .size
 
-pub records-length : (key s : List ℕ) (n : ℕ) → length (recordsIn key s n) ≡ 64 * n
+pub records-length : (bits s : List ℕ) (n : ℕ) → length (recordsIn bits s n) ≡ 64 * n
 unfolding recordsIn
-records-length key s zero = refl
-records-length key s (suc n) = length-append (recordsIn key s n) (recordIn key s n) ∙ omega (arith, records-length key s n, record-length key s n)
+records-length bits s zero = refl
+records-length bits s (suc n) = length-append (recordsIn bits s n) (recordIn bits s n) ∙ omega (arith, records-length bits s n, record-length bits s n)
 
 -- the word of frame k with its keystream taken off
-pub record-read : (key s : List ℕ) (k v0 v1 c x : ℕ) → tops 64 v0 ≡ unpacked s (start k + 2) 64 → tops 64 v1 ≡ unpacked s (start k + 10) 64
-    → tops 64 c ≡ unpacked s (start k + 18) 64 → tops 64 x ≡ added (tops 64 c) (streamOf key (tops 64 v0 ++ tops 64 v1) 64) → tops 64 x ≡ recordIn key s k
+pub record-read : (bits s : List ℕ) (k v0 v1 c x : ℕ) → tops 64 v0 ≡ unpacked s (start k + 2) 64 → tops 64 v1 ≡ unpacked s (start k + 10) 64
+    → tops 64 c ≡ unpacked s (start k + 18) 64 → tops 64 x ≡ added (tops 64 c) (streamOf bits (tops 64 v0 ++ tops 64 v1) 64) → tops 64 x ≡ recordIn bits s k
 unfolding recordIn
-record-read key s k v0 v1 c x e0 e1 ec ex =
+record-read bits s k v0 v1 c x e0 e1 ec ex =
     let p : start k + 2 + 8 ≡ start k + 10 = omega arith in
     ex
-    ∙ ap₂ (λ (a b : List ℕ). added a (streamOf key b 64)) ec (ap₂ _++_ e0 (e1 ∙ ap (λ (q : ℕ). unpacked s q 64) (sym p)) ∙ sym (unpacked-halves s (start k + 2)))
-    ∙ sym (kreyvium-of key _ _)
+    ∙ ap₂ (λ (a b : List ℕ). added a (streamOf bits b 64)) ec (ap₂ _++_ e0 (e1 ∙ ap (λ (q : ℕ). unpacked s q 64) (sym p)) ∙ sym (unpacked-halves s (start k + 2)))
+    ∙ sym (kreyvium-of bits _ _)
 
 -- For a loop: no record yet, one more.
-pub records-none : (key s old : List ℕ) → old ≡ over (recordsIn key s 0) old
+pub records-none : (bits s old : List ℕ) → old ≡ over (recordsIn bits s 0) old
 unfolding recordsIn over
-records-none key s old = refl
+records-none bits s old = refl
 
-pub records-more : (key s old : List ℕ) (k x : ℕ) {out out′ : List ℕ} → tops 64 x ≡ recordIn key s k → out ≡ over (recordsIn key s k) old
-    → out′ ≡ take (64 * k) out ++ over (tops 64 x) (drop (64 * k) out) → out′ ≡ over (recordsIn key s (suc k)) old
+pub records-more : (bits s old : List ℕ) (k x : ℕ) {out out′ : List ℕ} → tops 64 x ≡ recordIn bits s k → out ≡ over (recordsIn bits s k) old
+    → out′ ≡ take (64 * k) out ++ over (tops 64 x) (drop (64 * k) out) → out′ ≡ over (recordsIn bits s (suc k)) old
 unfolding recordsIn
-records-more key s old k x e o p =
-    part-after (recordsIn key s k) _ old (64 * k) (records-length key s k) o p ∙ ap (λ (t : List ℕ). over (recordsIn key s k ++ t) old) e
+records-more bits s old k x e o p =
+    part-after (recordsIn bits s k) _ old (64 * k) (records-length bits s k) o p ∙ ap (λ (t : List ℕ). over (recordsIn bits s k ++ t) old) e

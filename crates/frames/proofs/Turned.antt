@@ -1,33 +1,27 @@
 -- Words of 64 bits against the lists that they are read from and written to.
-use Prim.Native.Nat.{ℕ, zero, suc, _+_, _*_, _-_, _/_, _%_, _^_, _<_, _≤_}
-use mathlib.Core.Path.{_≡_, refl, sym, ap, ap₂, _∙_}
-use mathlib.Core.List.{List, [], _∷_, _++_}
+use Prim.Native.Nat.{ℕ, _+_, _*_, _-_, _/_, _%_, _^_, _<_, _≤_}
+use mathlib.Core.Path.{_≡_, sym, ap, ap₂, _∙_}
+use mathlib.Core.List.{List, _++_}
 use native.Mathlib.Omega.{arith}
 use lib.Bits.{bitXor}
 use lib.ListN.{length, getD, take, drop, length-drop, take-append-drop}
 use lib.Seq.{ext-getD, getD-take, getD-drop, length-take-le, take-all}
 use Rattle.answer.specs.Bits.{added}
 use Rattle.answer.proofs.Added.{added-length, added-at}
-use Rattle.filter.specs.Filter.{tab}
 use Rattle.filter.proofs.Tab.{tab-same}
 use Rattle.kreyvium.specs.Words.{bit, tops}
 use Rattle.kreyvium.proofs.Bits.{length-tops, tops-at, bit-xor}
+use Rattle.cipher.proofs.Block.{tab-tops}
 use Rattle.port.specs.Bytes.{digits, unpacked}
 use Rattle.port.proofs.Digits.{binary-bit, byte-bit, digits-field}
 use Rattle.sequence.specs.Files.{wordAt}
 use Rattle.sequence.proofs.Judged.{word-there}
 
--- a word's bits as a table, as a loop fills it
-pub tops-tab : (n z : ℕ) → tops n z ≡ tab (λ i. bit z (63 - i)) n
-unfolding tab tops
-tops-tab zero z = refl
-tops-tab (suc n) z = ap (λ (t : List ℕ). t ++ bit z (63 - n) ∷ []) (tops-tab n z)
-
 -- read from eight bytes
 pub bytes-tops : (s : List ℕ) (p x : ℕ) → x ≡ wordAt s p → p + 8 ≤ length s → ((k : ℕ) → k < 8 → getD s (p + k) 0 < 256) → tops 64 x ≡ unpacked s p 64
 unfolding unpacked
 bytes-tops s p x e h g =
-    tops-tab 64 x ∙ tab-same _ _ 64 (λ i l. ap (λ (y : ℕ). bit y (63 - i)) (e ∙ word-there s p h) ∙ byte-bit s p 8 i g l)
+    sym (tab-tops 64 x) ∙ tab-same _ _ 64 (λ i l. ap (λ (y : ℕ). bit y (63 - i)) (e ∙ word-there s p h) ∙ byte-bit s p 8 i g l)
 
 -- read from 64 bits
 pub bits-tops : (s : List ℕ) (p x : ℕ) → x ≡ digits 2 s p 64 → ((i : ℕ) → getD s i 0 ≤ 1) → p + 64 ≤ length s → tops 64 x ≡ take 64 (drop p s)

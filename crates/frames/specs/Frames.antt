@@ -12,13 +12,15 @@ use Rattle.answer.specs.Bits.{bitsAnswer}
 use Rattle.answer.specs.Choose.{choose}
 use Rattle.answer.specs.Fronts.{left}
 use Rattle.answer.specs.Judges.{lengthAnswer, roomAnswer}
+use Rattle.instance.specs.Keys.{keyIn, keyLengthAnswer, keyBitsAnswer}
 use Rattle.cipher.specs.Cipher.{encipherOf}
 use Rattle.port.specs.Bytes.{digits, packed, unpacked, BitList}
 use Rattle.sequence.specs.Files.{byteP, byteT, frameSize, start, framesIn, ivNumber, fileAnswer}
 
 -- ---- a frame: the mark "PT", 16 bytes of IV (IV0 is the high bit of the first byte), 8 bytes of record enciphered with Kreyvium
+-- under a key of these bits
 unfoldable pub frameOf : List ℕ → List ℕ → List ℕ → List ℕ
-frameOf key rec iv = (byteP ∷ byteT ∷ packed 16 iv) ++ packed 8 (encipherOf 6 64 key rec [] iv)
+frameOf bits rec iv = (byteP ∷ byteT ∷ packed 16 iv) ++ packed 8 (encipherOf 6 64 bits rec [] iv)
 
 -- its IV of 128 bits, read as a number, high byte first
 unfoldable pub ivValue : List ℕ → ℕ
@@ -29,16 +31,16 @@ unfoldable pub above : List ℕ → ℕ → List ℕ → Bool
 above s zero iv = true
 above s (suc k) iv = ltb (ivNumber s k) (ivValue iv)
 
--- ---- what is in a file
+-- ---- what is in a file, under a key of these bits
 
 -- the record of frame k: its 8 bytes deciphered under its IV
 unfoldable pub recordIn : List ℕ → List ℕ → ℕ → List ℕ
-recordIn key s k = encipherOf 6 64 key (unpacked s (start k + 18) 64) [] (unpacked s (start k + 2) 128)
+recordIn bits s k = encipherOf 6 64 bits (unpacked s (start k + 18) 64) [] (unpacked s (start k + 2) 128)
 
 -- the records of the first n frames, end to end
 unfoldable pub recordsIn : List ℕ → List ℕ → ℕ → List ℕ
-recordsIn key s zero = []
-recordsIn key s (suc k) = recordsIn key s k ++ recordIn key s k
+recordsIn bits s zero = []
+recordsIn bits s (suc k) = recordsIn bits s k ++ recordIn bits s k
 
 -- ---- the answers; l is the place of the file or of the last frame among the lists of a call
 
@@ -48,10 +50,10 @@ newAnswer l s iv = refuse 16 l (length s) (not (above s (framesIn s) iv))
 
 -- 3 and 4 on key 1, record 2 and IV 3
 unfoldable pub lengthsAnswer : List ℕ → List ℕ → List ℕ → Answer
-lengthsAnswer key rec iv = lengthAnswer 1 (length key) 128 ▹ lengthAnswer 2 (length rec) 64 ▹ lengthAnswer 3 (length iv) 128
+lengthsAnswer key rec iv = keyLengthAnswer 1 6 (length key) ▹ lengthAnswer 2 (length rec) 64 ▹ lengthAnswer 3 (length iv) 128
 
 unfoldable pub threeBitsAnswer : List ℕ → List ℕ → List ℕ → Answer
-threeBitsAnswer key rec iv = bitsAnswer 1 key ▹ bitsAnswer 2 rec ▹ bitsAnswer 3 iv
+threeBitsAnswer key rec iv = keyBitsAnswer 1 6 key ▹ bitsAnswer 2 rec ▹ bitsAnswer 3 iv
 
 -- what comes after 3 and 4: 15 and 16 of the file, which is list 4, 16 of the new frame, and 8 on the room of n bytes for it
 unfoldable pub endAnswer : List ℕ → List ℕ → ℕ → Answer
@@ -72,21 +74,21 @@ appendAfterAnswer key rec iv last n =
 
 -- lists: key, file, records, for which n places are lent
 unfoldable pub readAnswer : List ℕ → List ℕ → ℕ → Answer
-readAnswer key s n = lengthAnswer 1 (length key) 128 ▹ bitsAnswer 1 key ▹ fileAnswer 2 s ▹ roomAnswer 3 n (64 * framesIn s)
+readAnswer key s n = keyLengthAnswer 1 6 (length key) ▹ keyBitsAnswer 1 6 key ▹ fileAnswer 2 s ▹ roomAnswer 3 n (64 * framesIn s)
 
--- ---- what a call answers and leaves in its result
+-- ---- what a call answers and leaves in its result, where a key is lent
 
 pub record Appended (key rec iv s out : List ℕ) (r : Answer) (out′ : List ℕ) : Type 0 where
   pub answered : r ≡ appendAnswer key rec iv s (length out)
-  pub written : out′ ≡ left r (frameOf key rec iv) out
+  pub written : out′ ≡ left r (frameOf (keyIn 6 key) rec iv) out
 
 pub record AppendedAfter (key rec iv last out : List ℕ) (r : Answer) (out′ : List ℕ) : Type 0 where
   pub answered : r ≡ appendAfterAnswer key rec iv last (length out)
-  pub written : out′ ≡ left r (frameOf key rec iv) out
+  pub written : out′ ≡ left r (frameOf (keyIn 6 key) rec iv) out
 
 pub record FramesRead (key s out : List ℕ) (r : Answer) (out′ : List ℕ) : Type 0 where
   pub answered : r ≡ readAnswer key s (length out)
-  pub written : out′ ≡ left r (recordsIn key s (framesIn s)) out
+  pub written : out′ ≡ left r (recordsIn (keyIn 6 key) s (framesIn s)) out
 
 -- ---- for what is said of several calls
 
@@ -96,10 +98,10 @@ pub record Rising (rec iv : ℕ → List ℕ) (n : ℕ) : Type 0 where
   pub iv-bits : (k : ℕ) → k < n → BitList 128 (iv k)
   pub rise : (k : ℕ) → suc k < n → ivValue (iv k) < ivValue (iv (suc k))
 
--- the file of n frames appended one after another, from nothing
+-- the file of n frames appended one after another under a key of these bits, from nothing
 unfoldable pub fileOf : List ℕ → (ℕ → List ℕ) → (ℕ → List ℕ) → ℕ → List ℕ
-fileOf key rec iv zero = []
-fileOf key rec iv (suc n) = fileOf key rec iv n ++ frameOf key (rec n) (iv n)
+fileOf bits rec iv zero = []
+fileOf bits rec iv (suc n) = fileOf bits rec iv n ++ frameOf bits (rec n) (iv n)
 
 -- n records end to end
 unfoldable pub endToEnd : (ℕ → List ℕ) → ℕ → List ℕ

@@ -6,9 +6,9 @@ ghost use lib.ListN.{length, getD, take, drop};
 ghost use lib.Seq.{sets};
 ghost use Rattle.answer.specs.Fronts.{over};
 ghost use Rattle.kreyvium.specs.Words.{bit, bits, tops};
-ghost use Rattle.cipher.specs.Apart.{apart};
+ghost use Rattle.cipher.specs.Inner.{apart, lowFour};
 ghost use Rattle.port.specs.Bytes.{digits, packed};
-ghost use Rattle.frames.specs.Inner.{exchangedBy, lowFour};
+ghost use Rattle.frames.specs.Inner.{exchangedBy};
 
 fn wide(x: u8) -> u64
     ensures { λ r. ⌜ (r ≡ x) × (r < 256) ⌝ }

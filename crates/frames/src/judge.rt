@@ -12,7 +12,7 @@ ghost use Rattle.answer.specs.Judges.{roomAnswer};
 ghost use Rattle.port.specs.Bytes.{BitList};
 ghost use Rattle.sequence.specs.Files.{frameSize, framesIn};
 ghost use Rattle.frames.specs.Frames.{newAnswer, lengthsAnswer, threeBitsAnswer, endAnswer, appendAnswer, lastAnswer, appendAfterAnswer, readAnswer};
-ghost use Rattle.frames.specs.Lent.{Whole};
+ghost use Rattle.frames.specs.Inner.{Whole};
 
 // 16 of a new frame behind a file of whole frames.
 fn new_frame(s: &[u8], iv: &[u8]) -> Answer
@@ -29,11 +29,7 @@ fn new_frame(s: &[u8], iv: &[u8]) -> Answer
     if iv_above(p0, p1, bit_word(iv, 0), bit_word(iv, 64)) {
         return Answer::Done;
     }
-    Answer::Refused {
-        number: answer::ORDER,
-        list: 4,
-        place: len,
-    }
+    answer::refused(answer::ORDER, 4, len)
 }
 
 // 15 and 16 of the file and of a new frame behind it, and 8 on the room for that.
@@ -56,7 +52,7 @@ fn end(s: &[u8], iv: &[u8], room: usize) -> Answer
 fn lengths(key: &[u8], record: &[u8], iv: &[u8]) -> Answer
     ensures { λ r. ⌜ r ≡ lengthsAnswer (now (key .entry)) (now («record» .entry)) (now (iv .entry)) ⌝ }
 {
-    let r = answer::exact(key.len(), 128, 1);
+    let r = instance::key_length(6, key.len(), 1);
     let Answer::Done = r else {
         return r;
     };
@@ -71,7 +67,7 @@ fn lengths(key: &[u8], record: &[u8], iv: &[u8]) -> Answer
 fn three_bits(key: &[u8], record: &[u8], iv: &[u8]) -> Answer
     ensures { λ r. ⌜ r ≡ threeBitsAnswer (now (key .entry)) (now («record» .entry)) (now (iv .entry)) ⌝ }
 {
-    let r = answer::bits(key, 1);
+    let r = instance::key_bits(6, key, 1);
     let Answer::Done = r else {
         return r;
     };
@@ -130,11 +126,7 @@ fn records_room(room: usize, len: usize) -> Answer
     ensures { λ r. ⌜ r ≡ roomAnswer 3 room (64 * ((len + 25) / frameSize)) ⌝ }
 {
     if room / RECORD_BITS < len / FRAME_SIZE {
-        return Answer::Refused {
-            number: answer::ROOM,
-            list: 3,
-            place: room,
-        };
+        return answer::refused(answer::ROOM, 3, room);
     }
     Answer::Done
 }
@@ -142,11 +134,11 @@ fn records_room(room: usize, len: usize) -> Answer
 pub(crate) fn read(key: &[u8], file: &[u8], room: usize) -> Answer
     ensures { λ r. ⌜ r ≡ readAnswer (now (key .entry)) (now (file .entry)) room ⌝ }
 {
-    let r = answer::exact(key.len(), 128, 1);
+    let r = instance::key_length(6, key.len(), 1);
     let Answer::Done = r else {
         return r;
     };
-    let s = answer::bits(key, 1);
+    let s = instance::key_bits(6, key, 1);
     let Answer::Done = s else {
         return s;
     };

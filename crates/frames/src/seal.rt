@@ -13,13 +13,13 @@ ghost use Prim.Native.Nat.{_+_, _*_, _≤_};
 ghost use lib.ListN.{length};
 ghost use Rattle.answer.specs.Bits.{added};
 ghost use Rattle.answer.specs.Fronts.{over};
+ghost use Rattle.instance.specs.Keys.{Keyed, keyIn};
 ghost use Rattle.kreyvium.specs.Words.{bits, tops};
 ghost use Rattle.kreyvium.specs.Kreyvium.{streamOf};
 ghost use Rattle.port.specs.Bytes.{packed, BitList};
 ghost use Rattle.sequence.specs.Files.{frameSize, framesIn};
 ghost use Rattle.frames.specs.Frames.{frameOf, recordsIn};
-ghost use Rattle.frames.specs.Inner.{markBytes};
-ghost use Rattle.frames.specs.Lent.{Whole};
+ghost use Rattle.frames.specs.Inner.{markBytes, Whole};
 
 // The key as Kreyvium takes it, its first bit lowest.
 struct Key {
@@ -27,9 +27,10 @@ struct Key {
     second: u64,
 }
 
+// No other function here knows how a key is lent.
 fn key_words(key: &[u8]) -> Key
-    requires { ⌜ BitList 128 (now key) ⌝ }
-    ensures { λ r. ⌜ bits 64 (r .first) ++ bits 64 (r .second) ≡ now (key .entry) ⌝ }
+    requires { ⌜ Keyed 6 (now key) ⌝ }
+    ensures { λ r. ⌜ bits 64 (r .first) ++ bits 64 (r .second) ≡ keyIn 6 (now (key .entry)) ⌝ }
 {
     Key {
         first: reversed(bit_word(key, 0)),
@@ -66,8 +67,8 @@ fn put_parts(v0: u64, v1: u64, x: u64, out: &mut [u8])
 
 // A new frame.
 pub(crate) fn put_frame(key: &[u8], record: &[u8], iv: &[u8], frame: &mut [u8])
-    requires { ⌜ BitList 128 (now key) × BitList 64 (now «record») × BitList 128 (now iv) × (frameSize ≤ length (now frame)) ⌝ }
-    ensures { λ r. ⌜ now (frame .exit) ≡ over (frameOf (now (key .entry)) (now («record» .entry)) (now (iv .entry))) (now (frame .entry)) ⌝ }
+    requires { ⌜ Keyed 6 (now key) × BitList 64 (now «record») × BitList 128 (now iv) × (frameSize ≤ length (now frame)) ⌝ }
+    ensures { λ r. ⌜ now (frame .exit) ≡ over (frameOf (keyIn 6 (now (key .entry))) (now («record» .entry)) (now (iv .entry))) (now (frame .entry)) ⌝ }
 {
     let v0 = bit_word(iv, 0);
     let v1 = bit_word(iv, 64);
@@ -78,8 +79,8 @@ pub(crate) fn put_frame(key: &[u8], record: &[u8], iv: &[u8], frame: &mut [u8])
 
 // The records of a file of whole frames.
 pub(crate) fn put_records(key: &[u8], file: &[u8], records: &mut [u8])
-    requires { ⌜ BitList 128 (now key) × Whole (framesIn (now file)) (now file) × (64 * framesIn (now file) ≤ length (now records)) ⌝ }
-    ensures { λ r. ⌜ now (records .exit) ≡ over (recordsIn (now (key .entry)) (now (file .entry)) (framesIn (now (file .entry)))) (now (records .entry)) ⌝ }
+    requires { ⌜ Keyed 6 (now key) × Whole (framesIn (now file)) (now file) × (64 * framesIn (now file) ≤ length (now records)) ⌝ }
+    ensures { λ r. ⌜ now (records .exit) ≡ over (recordsIn (keyIn 6 (now (key .entry))) (now (file .entry)) (framesIn (now (file .entry)))) (now (records .entry)) ⌝ }
 {
     let k = key_words(key);
     let mut at: usize = 0;

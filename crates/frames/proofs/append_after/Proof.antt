@@ -20,14 +20,18 @@ enum-told-2 c = search needs
 returns : tie.Need-returns
 returns c = record { answered = c .before .before .append-after .ensures; written = kept _ _ (c .enum-told2 .given .1) }
 
+-- the call
+abbrev call : tie.After-append-after → tie.Start
+call c = c .before .before .before .before .before .before
+
 -- what Done tells of what was lent
-lent : (c : tie.After-enum-told) → let a = c .before .before .before .before .before .before .before .before .args in AppendLent (now (a .key)) (now (a .«record»)) (now (a .iv)) (now (a .last)) (length (now (a .frame)))
+lent : (c : tie.After-enum-told) → let a = call (c .before .before) .args in AppendLent (now (a .key)) (now (a .«record»)) (now (a .iv)) (now (a .last)) (length (now (a .frame)))
 lent c = append-after-lent _ _ _ _ _ (sym (c .before .before .append-after .ensures) ∙ c .enum-told .given .1)
 
 put-frame-requires : tie.Need-put-frame-requires
 put-frame-requires c κs =
     let l = lent (c .before) in
-    (l .keyBits, l .recordBits, l .ivBits, l .room)
+    (l .keyed, l .recordBits, l .ivBits, l .room)
 
 same-length : tie.Need-same-length
 same-length c = search needs

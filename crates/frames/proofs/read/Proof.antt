@@ -2,8 +2,7 @@ use mathlib.Core.Path.{refl, sym, _∙_}
 use denote.Ref.{now}
 use lib.ListN.{length}
 use Rattle.answer.proofs.Over.{kept, made}
-use Rattle.frames.specs.Lent.{ReadLent}
-use Rattle.frames.proofs.Judged.{read-lent}
+use Rattle.frames.proofs.Judged.{ReadLent, read-lent}
 use borrow.Author.Needs.{needs}
 use Rattle.frames.proofs.read.Statement.{statement}
 use Rattle.frames.proofs.read.Tie as tie
@@ -20,14 +19,18 @@ enum-told-2 c = search needs
 returns : tie.Need-returns
 returns c = record { answered = c .before .before .read .ensures; written = kept _ _ (c .enum-told2 .given .1) }
 
+-- the call
+abbrev call : tie.After-read → tie.Start
+call c = c .before .before .before .before
+
 -- what Done tells of what was lent
-lent : (c : tie.After-enum-told) → let a = c .before .before .before .before .before .before .args in ReadLent (now (a .key)) (now (a .file)) (length (now (a .records)))
+lent : (c : tie.After-enum-told) → let a = call (c .before .before) .args in ReadLent (now (a .key)) (now (a .file)) (length (now (a .records)))
 lent c = read-lent _ _ _ (sym (c .before .before .read .ensures) ∙ c .enum-told .given .1)
 
 put-records-requires : tie.Need-put-records-requires
 put-records-requires c κs =
     let l = lent (c .before) in
-    (l .keyBits, l .whole, l .room)
+    (l .keyed, l .whole, l .room)
 
 same-length : tie.Need-same-length
 same-length c = search needs

@@ -91,7 +91,8 @@ slice-write-out c = search needs
 
 add-at : tie.Need-add-at Inv-loop μ-loop
 add-at c =
-    let t = c .before .before .before .before .before .before in
+    let b = c .before .before in
+    let t = b .before .before .before .before in
     omega (arith, there t)
 
 add-i : tie.Need-add-i Inv-loop μ-loop
@@ -102,15 +103,17 @@ loop-less c = search needs
 
 loop-again : tie.Need-loop-again Inv-loop μ-loop
 loop-again c =
-    let t = c .before .before .before .before .before .before in
+    let x = c .before in
+    let b = x .before in
+    let t = b .before .before .before .before in
     let l = t .before .loop in
     let s = start (t .before) in
     let n : length (take (s .args .row) (l .x)) ≡ s .args .row = omega (arith, length-take (s .args .row) (l .x), there t) in
     let f = streamBit (s .args .instance) (keyIn (s .args .instance) (s .args .key .now)) (s .args .indices .now) (s .args .whitening .now) in
-    let b : c .before .before .row-bit .result ≡ f (l .i) =
-    c .before .before .row-bit .ensures
+    let bit : b .row-bit .result ≡ f (l .i) =
+    b .row-bit .ensures
     ∙ bit-is (s .args .instance) (keyIn (s .args .instance) (s .args .key .now)) (s .args .indices .now) (s .args .whitening .now) (l .i) (n ∙ s .pre .1) (l .inv .4 ∙ ap (λ (x : ℕ). l .i * x) (sym n)) (tail-is (l .at) (s .args .indices .now)) (tail-is (l .at) (s .args .whitening .now)) in
-    (rw (l .inv .0) (tab-more f (s .args .out .now) (l .i) _ (search needs) b), search needs, search needs, omega (arith, c .before .x .given, length-append (c .before .before .row-bit .last .1 .1 .1 .1 .0) (drop (s .args .row) (l .x)), length-drop (s .args .row) (l .x), there t), omega (arith, l .inv .4, row-next (l .i) (s .args .row)))
+    (rw (l .inv .0) (tab-more f (s .args .out .now) (l .i) _ (search needs) bit), search needs, search needs, omega (arith, x .x .given, length-append (b .row-bit .last .1 .1 .1 .1 .0) (drop (s .args .row) (l .x)), length-drop (s .args .row) (l .x), there t), omega (arith, l .inv .4, row-next (l .i) (s .args .row)))
 
 same-length : tie.Need-same-length Inv-loop μ-loop
 same-length c = search needs

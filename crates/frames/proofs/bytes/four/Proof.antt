@@ -1,18 +1,10 @@
-use Prim.Native.Nat.{ℕ, _+_, _*_}
-use mathlib.Core.Path.{_≡_, refl}
-use mathlib.Core.List.{List}
+use Prim.Native.Nat.{_+_}
 use native.Mathlib.Omega.{arith}
-use lib.ListN.{getD}
 use denote.Ref.{now}
-use Rattle.cipher.specs.Apart.{apart}
+use Rattle.cipher.proofs.Halves.{apart-sum}
 use borrow.Author.Needs.{needs}
 use Rattle.frames.proofs.bytes.four.Statement.{statement}
 use Rattle.frames.proofs.bytes.four.Tie as tie
-
-sum : (s : List ℕ) (at a b d e : ℕ) → a ≡ getD s at 0 → b ≡ getD s (at + 1) 0 → d ≡ getD s (at + 2) 0 → e ≡ getD s (at + 3) 0
-    → a + b * 256 + d * 65536 + e * 16777216 ≡ apart s at
-unfolding apart
-sum s at a b d e f g h i = rw (f, g, h, i) refl
 
 shared-slice-read-wide : tie.Need-shared-slice-read-wide
 shared-slice-read-wide c = search needs
@@ -72,7 +64,7 @@ returns c =
     let a = b .before .before in
     let s = a .before .before .before in
     let at = s .args .at in (
-      sum (now (s .args .s)) at _ _ _ _ (a .wide .ensures .0) (b .wide2 .ensures .0) (d .wide3 .ensures .0) (c .wide4 .ensures .0),
+      apart-sum (now (s .args .s)) at _ _ _ _ (a .wide .ensures .0) (b .wide2 .ensures .0) (d .wide3 .ensures .0) (c .wide4 .ensures .0),
       omega (arith, a .wide .ensures .0, b .wide2 .ensures .0, d .wide3 .ensures .0, c .wide4 .ensures .0, s .pre .1 at, s .pre .1 (at + 1), s .pre .1 (at + 2), s .pre .1 (at + 3)),
     )
 

@@ -1,5 +1,5 @@
 use Prim.Native.Nat.{ℕ, _+_, _-_, _/_, _%_, _^_, _≤_}
-use mathlib.Core.Path.{_≡_, ap, sym, _∙_}
+use mathlib.Core.Path.{_≡_, ap, _∙_}
 use mathlib.Core.List.{List}
 use native.Mathlib.Omega.{arith}
 use lib.ListN.{length}
@@ -8,16 +8,15 @@ use denote.Ref.{now}
 use Rattle.answer.specs.Fronts.{over}
 use Rattle.filter.specs.Filter.{tab}
 use Rattle.filter.proofs.Tab.{tab-none}
-use Rattle.kreyvium.specs.Words.{bit}
-use Rattle.frames.specs.Inner.{lowFour}
-use Rattle.frames.proofs.Turned.{tops-tab}
-use Rattle.frames.proofs.Spreading.{bits-more}
+use Rattle.cipher.specs.Inner.{lowFour}
+use Rattle.cipher.proofs.Block.{blockBit, tab-tops}
+use Rattle.cipher.proofs.Spread.{block-eight}
 use borrow.Author.Needs.{needs}
 use Rattle.frames.proofs.bytes.put_bits.Statement.{statement}
 use Rattle.frames.proofs.bytes.put_bits.Tie as tie
 
 abbrev Inv-loop : tie.InvT-loop
-Inv-loop x out₀ i₀ out i = (out ≡ over (tab (λ i. bit x (63 - i)) i) out₀) × (i ≤ 64) × (i % 8 ≡ 0) × (length out ≡ length out₀)
+Inv-loop x out₀ i₀ out i = (out ≡ over (tab (blockBit x) i) out₀) × (i ≤ 64) × (i % 8 ≡ 0) × (length out ≡ length out₀)
 
 abbrev μ-loop : tie.MeasureT-loop
 μ-loop x out₀ i₀ out i = 64 - i
@@ -59,7 +58,7 @@ loop-again c =
     let y = sp .spread .result in (
       two .put-four2 .ensures
           ∙ ap (λ (t : List ℕ). sets t (l .i + 4) (lowFour (y / 2 ^ 32))) (one .put-four .ensures)
-          ∙ bits-more (s .args .x) (l .i) y (now (s .args .out)) (l .out) (search needs) (search needs) (sp .spread .ensures) (l .inv .0),
+          ∙ block-eight (s .args .x) (l .i) y (now (s .args .out)) (l .out) (search needs) (search needs) (sp .spread .ensures) (l .inv .0),
       search needs,
       search needs,
       search needs,
@@ -73,8 +72,8 @@ returns c =
     let s = c .before .before .before in
     let e : c .before .loop .i ≡ 64 = omega arith in
     c .before .loop .inv .0
-    ∙ ap (λ (n : ℕ). over (tab (λ i. bit (s .args .x) (63 - i)) n) (now (s .args .out))) e
-    ∙ ap (λ (t : List ℕ). over t (now (s .args .out))) (sym (tops-tab 64 (s .args .x)))
+    ∙ ap (λ (n : ℕ). over (tab (blockBit (s .args .x)) n) (now (s .args .out))) e
+    ∙ ap (λ (t : List ℕ). over t (now (s .args .out))) (tab-tops 64 (s .args .x))
 
 pub put-bits-spec : {M : Type 1} → statement M
 put-bits-spec =

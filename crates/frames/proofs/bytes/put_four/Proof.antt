@@ -1,7 +1,7 @@
 use native.Mathlib.Omega.{arith}
 use lib.ListN.{length-set}
 use denote.Ref.{now}
-use Rattle.frames.proofs.Spreading.{four-set}
+use Rattle.cipher.proofs.Spread.{four-set}
 use borrow.Author.Needs.{needs}
 use Rattle.frames.proofs.bytes.put_four.Statement.{statement}
 use Rattle.frames.proofs.bytes.put_four.Tie as tie

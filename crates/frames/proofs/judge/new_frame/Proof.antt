@@ -1,3 +1,4 @@
+use mathlib.Core.Path.{_∙_}
 use Rattle.frames.proofs.Judged.{new-first, new-above, new-below}
 use borrow.Author.Needs.{needs}
 use Rattle.frames.proofs.judge.new_frame.Statement.{statement}
@@ -40,15 +41,20 @@ returns-2 c =
     let s = p .before .before .before .before in
     new-above 4 _ _ (s .pre .0) (p .before .if1 .left) (p .word .ensures) (q .word2 .ensures) (x .bit-word .ensures .0) (y .bit-word2 .ensures .0) (v .iv-above .ensures) (c .if2 .taken)
 
+refused-requires : tie.Need-refused-requires
+refused-requires c κs = search needs
+
 returns-3 : tie.Need-returns-3
 returns-3 c =
-    let v = c .before in
+    let b = c .before in
+    let v = b .before in
     let y = v .before in
     let x = y .before in
     let q = x .before in
     let p = q .before in
     let s = p .before .before .before .before in
-    new-below 4 _ _ (s .pre .0) (p .before .if1 .left) (p .word .ensures) (q .word2 .ensures) (x .bit-word .ensures .0) (y .bit-word2 .ensures .0) (v .iv-above .ensures) (c .if2 .left)
+    c .refused .ensures
+    ∙ new-below 4 _ _ (s .pre .0) (p .before .if1 .left) (p .word .ensures) (q .word2 .ensures) (x .bit-word .ensures .0) (y .bit-word2 .ensures .0) (v .iv-above .ensures) (b .if2 .left)
 
 pub new-frame-spec : {M : Type 1} → statement M
 new-frame-spec =
@@ -64,4 +70,5 @@ new-frame-spec =
     bit-word-requires-2
     iv-above-requires
     returns-2
+    refused-requires
     returns-3)

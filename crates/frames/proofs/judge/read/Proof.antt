@@ -7,8 +7,8 @@ use borrow.Author.Needs.{needs}
 use Rattle.frames.proofs.judge.read.Statement.{statement}
 use Rattle.frames.proofs.judge.read.Tie as tie
 
-exact-requires : tie.Need-exact-requires
-exact-requires c κs = search needs
+key-length-requires : tie.Need-key-length-requires
+key-length-requires c κs = search needs
 
 enum-told : tie.Need-enum-told
 enum-told c = search needs
@@ -18,10 +18,10 @@ enum-told-2 c = search needs
 
 returns : tie.Need-returns
 unfolding readAnswer
-returns c = stop _ (c .before .before .exact .ensures) (c .enum-told2 .given .1)
+returns c = stop _ (c .before .before .key-length .ensures) (c .enum-told2 .given .1)
 
-bits-requires : tie.Need-bits-requires
-bits-requires c κs = search needs
+key-bits-requires : tie.Need-key-bits-requires
+key-bits-requires c κs = search needs
 
 enum-told-3 : tie.Need-enum-told-3
 enum-told-3 c = search needs
@@ -34,7 +34,7 @@ unfolding readAnswer
 returns-2 c =
     let b = c .before .before in
     let e = b .before .before .before in
-    go (e .exact .ensures) (b .before .enum-told .given .1) (stop _ (b .bits .ensures) (c .enum-told4 .given .1))
+    go (e .key-length .ensures) (b .before .enum-told .given .1) (stop _ (b .key-bits .ensures) (c .enum-told4 .given .1))
 
 file-requires : tie.Need-file-requires
 file-requires c κs = search needs
@@ -51,7 +51,7 @@ returns-3 c =
     let f = c .before .before in
     let b = f .before .before .before in
     let e = b .before .before .before in
-    go (e .exact .ensures) (b .before .enum-told .given .1) (go (b .bits .ensures) (f .before .enum-told3 .given .1) (stop _ (f .file .ensures) (c .enum-told6 .given .1)))
+    go (e .key-length .ensures) (b .before .enum-told .given .1) (go (b .key-bits .ensures) (f .before .enum-told3 .given .1) (stop _ (f .file .ensures) (c .enum-told6 .given .1)))
 
 records-room-requires : tie.Need-records-room-requires
 records-room-requires c κs =
@@ -64,17 +64,17 @@ returns-4 c =
     let f = c .before .before .before in
     let b = f .before .before .before in
     let e = b .before .before .before in
-    go (e .exact .ensures) (b .before .enum-told .given .1) (go (b .bits .ensures) (f .before .enum-told3 .given .1) (go (f .file .ensures) (c .before .enum-told5 .given .1) (c .records-room .ensures)))
+    go (e .key-length .ensures) (b .before .enum-told .given .1) (go (b .key-bits .ensures) (f .before .enum-told3 .given .1) (go (f .file .ensures) (c .before .enum-told5 .given .1) (c .records-room .ensures)))
 
 pub read-spec : {M : Type 1} → statement M
 read-spec =
     tie.close
     (tie.spec
-    exact-requires
+    key-length-requires
     enum-told
     enum-told-2
     returns
-    bits-requires
+    key-bits-requires
     enum-told-3
     enum-told-4
     returns-2

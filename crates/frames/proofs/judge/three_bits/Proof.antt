@@ -4,8 +4,8 @@ use borrow.Author.Needs.{needs}
 use Rattle.frames.proofs.judge.three_bits.Statement.{statement}
 use Rattle.frames.proofs.judge.three_bits.Tie as tie
 
-bits-requires : tie.Need-bits-requires
-bits-requires c κs = search needs
+key-bits-requires : tie.Need-key-bits-requires
+key-bits-requires c κs = search needs
 
 enum-told : tie.Need-enum-told
 enum-told c = search needs
@@ -15,10 +15,10 @@ enum-told-2 c = search needs
 
 returns : tie.Need-returns
 unfolding threeBitsAnswer
-returns c = stop _ (c .before .before .bits .ensures) (c .enum-told2 .given .1)
+returns c = stop _ (c .before .before .key-bits .ensures) (c .enum-told2 .given .1)
 
-bits-requires-2 : tie.Need-bits-requires-2
-bits-requires-2 c κs = search needs
+bits-requires : tie.Need-bits-requires
+bits-requires c κs = search needs
 
 enum-told-3 : tie.Need-enum-told-3
 enum-told-3 c = search needs
@@ -30,28 +30,28 @@ returns-2 : tie.Need-returns-2
 unfolding threeBitsAnswer
 returns-2 c =
     let b = c .before .before in
-    go (b .before .before .before .bits .ensures) (b .before .enum-told .given .1) (stop _ (b .bits2 .ensures) (c .enum-told4 .given .1))
+    go (b .before .before .before .key-bits .ensures) (b .before .enum-told .given .1) (stop _ (b .bits .ensures) (c .enum-told4 .given .1))
 
-bits-requires-3 : tie.Need-bits-requires-3
-bits-requires-3 c κs = search needs
+bits-requires-2 : tie.Need-bits-requires-2
+bits-requires-2 c κs = search needs
 
 returns-3 : tie.Need-returns-3
 unfolding threeBitsAnswer
 returns-3 c =
     let b = c .before .before .before in
-    go (b .before .before .before .bits .ensures) (b .before .enum-told .given .1) (go (b .bits2 .ensures) (c .before .enum-told3 .given .1) (c .bits3 .ensures))
+    go (b .before .before .before .key-bits .ensures) (b .before .enum-told .given .1) (go (b .bits .ensures) (c .before .enum-told3 .given .1) (c .bits2 .ensures))
 
 pub three-bits-spec : {M : Type 1} → statement M
 three-bits-spec =
     tie.close
     (tie.spec
-    bits-requires
+    key-bits-requires
     enum-told
     enum-told-2
     returns
-    bits-requires-2
+    bits-requires
     enum-told-3
     enum-told-4
     returns-2
-    bits-requires-3
+    bits-requires-2
     returns-3)

@@ -5,6 +5,7 @@ use denote.Ref.{now}
 use lib.ListN.{take, drop}
 use Rattle.answer.specs.Bits.{added}
 use Rattle.answer.specs.Fronts.{over}
+use Rattle.instance.specs.Keys.{keyIn}
 use Rattle.kreyvium.specs.Words.{tops}
 use Rattle.kreyvium.specs.Kreyvium.{streamOf}
 use Rattle.frames.proofs.Turned.{two-halves}
@@ -44,14 +45,14 @@ returns c =
     let first = second .before in
     let s = first .before .before .before .before .before in
     let a = s .args in
-    let key = now (a .key) in
+    let bits = keyIn 6 (now (a .key)) in
     let iv = now (a .iv) in
-    let stream : tops 64 (cross .crossed .result) ≡ added (take 64 (drop 0 (now (a .«record»)))) (streamOf key iv 64) =
+    let stream : tops 64 (cross .crossed .result) ≡ added (take 64 (drop 0 (now (a .«record»)))) (streamOf bits iv 64) =
     cross .crossed .ensures
     ∙ ap₂ added (rec .bit-word3 .ensures .1)
     (ap₂ (λ (k v : List ℕ). streamOf k v 64) (words .key-words .ensures) (ap₂ _++_ (first .bit-word .ensures .1) (second .bit-word2 .ensures .1) ∙ two-halves iv (s .pre .2 .size))) in
     parts .put-parts .ensures
-    ∙ ap (λ (t : List ℕ). over t (now (a .frame))) (frame-written key (now (a .«record»)) iv _ _ _ (s .pre .1 .size) (first .bit-word .ensures .1) (second .bit-word2 .ensures .1) stream)
+    ∙ ap (λ (t : List ℕ). over t (now (a .frame))) (frame-written bits (now (a .«record»)) iv _ _ _ (s .pre .1 .size) (first .bit-word .ensures .1) (second .bit-word2 .ensures .1) stream)
 
 pub put-frame-spec : {M : Type 1} → statement M
 put-frame-spec =

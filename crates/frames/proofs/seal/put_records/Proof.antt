@@ -6,6 +6,7 @@ use denote.Ref.{now}
 use lib.ListN.{length}
 use Rattle.answer.specs.Fronts.{over}
 use Rattle.answer.specs.Bits.{added}
+use Rattle.instance.specs.Keys.{keyIn}
 use Rattle.kreyvium.specs.Words.{tops}
 use Rattle.kreyvium.specs.Kreyvium.{streamOf}
 use Rattle.port.specs.Bytes.{unpacked}
@@ -19,14 +20,18 @@ use Rattle.frames.proofs.seal.put_records.Tie as tie
 
 abbrev Inv-loop : tie.InvT-loop
 Inv-loop key file records₀ k at₀ to₀ records at to =
-    (at ≡ frameSize * (at / frameSize)) × (to ≡ 64 * (at / frameSize)) × (at ≤ length file) × (records ≡ over (recordsIn key file (at / frameSize)) records₀) × (length records ≡ length records₀)
+    (at ≡ frameSize * (at / frameSize)) × (to ≡ 64 * (at / frameSize)) × (at ≤ length file) × (records ≡ over (recordsIn (keyIn 6 key) file (at / frameSize)) records₀) × (length records ≡ length records₀)
 
 abbrev μ-loop : tie.MeasureT-loop
 μ-loop key file records₀ k at₀ to₀ records at to = length file - at
 
+-- the call
+abbrev call : tie.At-loop Inv-loop μ-loop → tie.Start Inv-loop μ-loop
+call c = c .before .before .before .before .before
+
 -- a whole frame is left
-left : (c : tie.In-loop Inv-loop μ-loop) → c .before .loop .at + 26 ≤ length (now (c .before .before .before .before .before .before .args .file))
-left c = omega (arith, c .before .before .before .before .before .before .pre .1 .size)
+left : (c : tie.In-loop Inv-loop μ-loop) → c .before .loop .at + 26 ≤ length (now (call (c .before) .args .file))
+left c = omega (arith, call (c .before) .pre .1 .size)
 
 key-words-requires : tie.Need-key-words-requires Inv-loop μ-loop
 key-words-requires c κs = search needs
@@ -77,16 +82,16 @@ loop-again c =
     let l = first .before .before .loop in
     let words = first .before .before .before in
     let a = words .before .before .before .before .args in
-    let key = now (a .key) in
+    let bits = keyIn 6 (now (a .key)) in
     let file = now (a .file) in
     let n = l .at / frameSize in
     let e : l .at ≡ start n = l .inv .0 in
     let known = words .before .before .shared-slice-known2 .given in
     let wordOf : (m x : ℕ) → m + 8 ≤ frameSize → x ≡ wordAt file (l .at + m) → tops 64 x ≡ unpacked file (start n + m) 64 = λ m x h q.
     bytes-tops file (l .at + m) x q (omega (arith, left (first .before))) (λ k g. omega (arith, known (l .at + m + k))) ∙ ap (λ (j : ℕ). unpacked file (j + m) 64) e in
-    let x = record-read key file n _ _ _ _ (wordOf 2 _ (omega arith) (first .word .ensures)) (wordOf 10 _ (omega arith) (second .word2 .ensures)) (wordOf 18 _ (omega arith) (third .word3 .ensures))
+    let x = record-read bits file n _ _ _ _ (wordOf 2 _ (omega arith) (first .word .ensures)) (wordOf 10 _ (omega arith) (second .word2 .ensures)) (wordOf 18 _ (omega arith) (third .word3 .ensures))
     (cross .crossed .ensures ∙ ap (λ (t : List ℕ). added (tops 64 (third .word3 .result)) (streamOf t (tops 64 (first .word .result) ++ tops 64 (second .word2 .result)) 64)) (words .key-words .ensures)) in
-    let r = records-more key file (now (a .records)) n _ x (l .inv .3) (rw (l .inv .1) at (put .put-bits-at .ensures)) in
+    let r = records-more bits file (now (a .records)) n _ x (l .inv .3) (rw (l .inv .1) at (put .put-bits-at .ensures)) in
     let q : (l .at + 26) / frameSize ≡ suc n = omega arith in
     (omega arith, omega arith, left (first .before), rw q r, search needs)
 
@@ -96,7 +101,7 @@ same-length c = search needs
 returns : tie.Need-returns Inv-loop μ-loop
 returns c =
     let l = c .before .loop in
-    let s = c .before .before .before .before .before .before in
+    let s = call (c .before) in
     let e : l .at / frameSize ≡ framesIn (now (s .args .file)) = omega (arith, s .pre .1 .size) in
     rw e at (l .inv .3)
 
