@@ -84,10 +84,10 @@ pub fn judge(s: &[u8], form: Form, room: usize) -> Answer
     ensures { λ r. ⌜ r ≡ readAnswer form (now (s .entry)) room ⌝ }
 {
     let front = head(s, form);
+    let space = answer::room(room, word_count(counts_in(s)), 2);
     let Answer::Done = front else {
         return front;
     };
-    let space = answer::room(room, word_count(counts_in(s)), 2);
     let Answer::Done = space else {
         return space;
     };
