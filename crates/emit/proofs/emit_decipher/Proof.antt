@@ -14,16 +14,18 @@ use Rattle.emit.proofs.emit_decipher.Tie as tie
 
 -- the wiring is accepted
 accepted : (c : tie.After-enum-told)
-    → let a = c .before .before .before .before .before .before .args in wiringAnswer (a .instance) (a .m) (now (a .indices)) (now (a .whitening)) ≡ Done
+    → let at-decipher-size = c .before .before in let start = at-decipher-size .before .before .before .before in let a = start .args in wiringAnswer (a .instance) (a .m) (now (a .indices)) (now (a .whitening)) ≡ Done
 accepted c = sym (size-answer _ _ (c .before .before .decipher-size .ensures)) ∙ c .enum-told .given .1
 
 -- and what is answered on the room
 due : (c : tie.After-room)
-    → let a = c .before .before .before .before .before .before .before .args in
+    → let at-decipher-size = c .before .before .before in let start = at-decipher-size .before .before .before .before in let a = start .args in
     c .room .result ≡ roomAnswer 3 (length (now (a .result))) (length (words (decipherNet (a .instance) (a .m) (now (a .indices)) (now (a .whitening)))))
 due c =
-    let a = c .before .before .before .before .before .before .before .args in
-    c .room .ensures ∙ ap (roomAnswer 3 (length (now (a .result)))) (size-counts _ (c .before .before .before .decipher-size .ensures) (accepted (c .before)) .1)
+    let at-decipher-size = c .before .before .before in
+    let start = at-decipher-size .before .before .before .before in
+    let a = start .args in
+    c .room .ensures ∙ ap (roomAnswer 3 (length (now (a .result)))) (size-counts _ (at-decipher-size .decipher-size .ensures) (accepted (c .before)) .1)
 
 decipher-size-requires : tie.Need-decipher-size-requires
 decipher-size-requires c κs = search needs
@@ -54,10 +56,13 @@ enum-told-4 c = search needs
 
 returns-2 : tie.Need-returns-2
 returns-2 c =
-    let r = c .before .before in
-    let a = r .before .before .before .before .before .before .before .args in
+    let at-room = c .before .before in
+    let at-enum-told = at-room .before in
+    let at-decipher-size = at-enum-told .before .before in
+    let start = at-decipher-size .before .before .before .before in
+    let a = start .args in
     record {
-      answered = judged _ _ _ _ _ (accepted (r .before)) (due r);
+      answered = judged _ _ _ _ _ (accepted at-enum-told) (due at-room);
       written = kept _ (now (a .result)) (c .enum-told4 .given .1);
     }
 

@@ -17,9 +17,10 @@ same-length c = search needs
 
 returns : tie.Need-returns
 returns c =
-    let k = c .before .before in
-    let s = k .before .before .before .before .before .before in
-    kreyvium-emitted _ _ _ _ _ _ _ (s .pre .0) (k .before .before .if1 .taken) (s .pre .1) (k .emit-kreyvium .ensures)
+    let at-emit-kreyvium = c .before .before in
+    let in-then = at-emit-kreyvium .before .before in
+    let start = in-then .before .before .before .before in
+    kreyvium-emitted _ _ _ _ _ _ _ (start .pre .0) (in-then .if1 .taken) (start .pre .1) (at-emit-kreyvium .emit-kreyvium .ensures)
 
 put-rows-net-requires : tie.Need-put-rows-net-requires
 put-rows-net-requires c κs =
@@ -32,13 +33,15 @@ same-length-2 c = search needs
 
 returns-2 : tie.Need-returns-2
 returns-2 c =
-    let k = c .before .before in
-    let n = k .before .before .if1 .left in
-    let a = k .before .before .before .before .before .before .args in
+    let at-put-rows-net = c .before .before in
+    let in-else = at-put-rows-net .before .before in
+    let start = in-else .before .before .before .before in
+    let n = in-else .if1 .left in
+    let a = start .args in
     record {
       answered = refl;
       written =
-          k .put-rows-net .ensures
+          at-put-rows-net .put-rows-net .ensures
           ∙ ap (λ (n : Net). over (words n) (now (a .result))) (sym (net-rows (a .instance) (a .m) (now (a .indices)) (now (a .whitening)) n))
           ∙ made _ _ refl;
     }

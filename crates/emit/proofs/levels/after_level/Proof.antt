@@ -70,7 +70,13 @@ sub-t22 : tie.Need-sub-t22
 sub-t22 c = search needs
 
 returns : tie.Need-returns
-returns c = after-is (c .before .before .before .before .before .before .before .args .r) _ _ _ _ _ _ (c .before .before .before .before .before .before .pos-of .ensures .0) (c .before .before .before .before .before .pos-of2 .ensures .0) (c .before .before .before .before .down-of .ensures .0) (c .before .before .down-of2 .ensures .0) (c .before .pos-of3 .ensures .0) (c .down-of3 .ensures .1)
+returns c =
+    let at-down-of2 = c .before .before in
+    let at-down-of = at-down-of2 .before .before in
+    let at-pos-of2 = at-down-of .before in
+    let at-pos-of = at-pos-of2 .before in
+    let start = at-pos-of .before in
+    after-is (start .args .r) _ _ _ _ _ _ (at-pos-of .pos-of .ensures .0) (at-pos-of2 .pos-of2 .ensures .0) (at-down-of .down-of .ensures .0) (at-down-of2 .down-of2 .ensures .0) (c .before .pos-of3 .ensures .0) (c .down-of3 .ensures .1)
 
 pub after-level-spec : {M : Type 1} → statement M
 after-level-spec =

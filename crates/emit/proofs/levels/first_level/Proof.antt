@@ -37,7 +37,13 @@ add-t16 : tie.Need-add-t16
 add-t16 c = search needs
 
 returns : tie.Need-returns
-returns c = let a = c .before .before .before .before .before .before .args in first-is (a .at) (a .next) (a .lows) (a .highs) (a .x) _ _ _ _ _ _ (c .before .before .before .before .before .pos-of .ensures .0) (c .before .before .before .before .down-of .ensures .0) (c .before .before .down-of2 .ensures .0) (c .before .pos-of2 .ensures .0) (c .down-of3 .ensures .1) (c .before .before .before .first-wire .ensures)
+returns c =
+    let at-down-of2 = c .before .before in
+    let at-first-wire = at-down-of2 .before in
+    let at-down-of = at-first-wire .before in
+    let at-pos-of = at-down-of .before in
+    let start = at-pos-of .before in
+    let a = start .args in first-is (a .at) (a .next) (a .lows) (a .highs) (a .x) _ _ _ _ _ _ (at-pos-of .pos-of .ensures .0) (at-down-of .down-of .ensures .0) (at-down-of2 .down-of2 .ensures .0) (c .before .pos-of2 .ensures .0) (c .down-of3 .ensures .1) (at-first-wire .first-wire .ensures)
 
 pub first-level-spec : {M : Type 1} → statement M
 first-level-spec =

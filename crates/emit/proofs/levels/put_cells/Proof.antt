@@ -21,12 +21,16 @@ put-first-requires : tie.Need-put-first-requires Inv-loop μ-loop
 put-first-requires c κs = let a = c .before .before .before .before .args in omega (arith, cells-length (a .ws .now) (a .lows) (a .highs) (a .at) (a .next) (omega arith))
 
 first-level-requires : tie.Need-first-level-requires Inv-loop μ-loop
-first-level-requires c κs = let a = c .before .before .before .before .before .before .before .args in (omega arith, omega (arith, cells-length (a .ws .now) (a .lows) (a .highs) (a .at) (a .next) (omega arith)))
+first-level-requires c κs =
+    let at-put-first = c .before .before in
+    let start = at-put-first .before .before .before .before .before in
+    let a = start .args in (omega arith, omega (arith, cells-length (a .ws .now) (a .lows) (a .highs) (a .at) (a .next) (omega arith)))
 
 loop-holds : tie.Need-loop-holds Inv-loop μ-loop
 loop-holds c =
-    let s = c .before .before .before .before .before .before .before .before in
-    climbing-start (s .args .ws .now) (s .args .out .now) _ (s .args .lows) (s .args .highs) (s .args .at) (s .args .next) _ (s .pre .0 .0) (s .pre .0 .1) (s .pre .0 .2) (s .pre .0 .3) (c .first-level .ensures) (c .before .before .before .put-first .ensures) (s .pre .1)
+    let at-put-first = c .before .before .before in
+    let start = at-put-first .before .before .before .before .before in
+    climbing-start (start .args .ws .now) (start .args .out .now) _ (start .args .lows) (start .args .highs) (start .args .at) (start .args .next) _ (start .pre .0 .0) (start .pre .0 .1) (start .pre .0 .2) (start .pre .0 .3) (c .first-level .ensures) (at-put-first .put-first .ensures) (start .pre .1)
 
 mul-put-level : tie.Need-mul-put-level Inv-loop μ-loop
 mul-put-level c = omega arith
@@ -44,16 +48,23 @@ loop-less : tie.Need-loop-less Inv-loop μ-loop
 loop-less c = omega arith
 
 loop-again : tie.Need-loop-again Inv-loop μ-loop
-loop-again c = climbing-next _ _ _ _ _ _ _ _ (c .before .before .before .before .before .before .loop .inv) _ _ (c .before .before .before .before .before .loop-test .taken) (c .before .before .put-level .ensures .0) (c .before .before .put-level .ensures .1)
+loop-again c =
+    let at-put-level = c .before .before in
+    let in-loop = at-put-level .before .before .before in
+    let at-loop = in-loop .before in
+    climbing-next _ _ _ _ _ _ _ _ (at-loop .loop .inv) _ _ (in-loop .loop-test .taken) (at-put-level .put-level .ensures .0) (at-put-level .put-level .ensures .1)
 
 same-length : tie.Need-same-length Inv-loop μ-loop
 same-length c = c .before .loop .inv .len ∙ c .before .before .before .before .before .put-first .kept .0
 
 returns : tie.Need-returns Inv-loop μ-loop
 returns c =
+    let at-first-level = c .before .before in
+    let at-put-first = at-first-level .before .before .before in
+    let start = at-put-first .before .before .before .before .before in
     let l = c .before .loop in
-    let a = c .before .before .before .before .before .before .before .before .before .before .args in (
-      climbing-whole _ _ _ _ _ _ _ _ (l .inv) (now (a .out)) (a .lows) (a .highs) (a .at) (c .loop-test .left) (c .before .before .first-level .ensures) (c .before .before .before .before .before .put-first .ensures),
+    let a = start .args in (
+      climbing-whole _ _ _ _ _ _ _ _ (l .inv) (now (a .out)) (a .lows) (a .highs) (a .at) (c .loop-test .left) (at-first-level .first-level .ensures) (at-put-first .put-first .ensures),
       climbing-end _ _ _ _ _ _ _ _ (l .inv) (c .loop-test .left),
     )
 

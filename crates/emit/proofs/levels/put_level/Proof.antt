@@ -21,7 +21,10 @@ add-at-tail : tie.Need-add-at-tail
 add-at-tail c = search needs
 
 put-tail-requires : tie.Need-put-tail-requires
-put-tail-requires c κs = omega (arith, pos-le (c .before .before .before .before .before .before .before .args .r .highs))
+put-tail-requires c κs =
+    let at-pos-of = c .before .before .before .before .before in
+    let start = at-pos-of .before .before in
+    omega (arith, pos-le (start .args .r .highs))
 
 cast-at-sum : tie.Need-cast-at-sum
 cast-at-sum c = search needs

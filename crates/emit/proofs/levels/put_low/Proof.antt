@@ -17,7 +17,11 @@ same-length : tie.Need-same-length
 same-length c = search needs
 
 returns : tie.Need-returns
-returns c = low-kept _ _ _ _ _ _ _ _ (c .before .before .before .before .before .before .before .before .if1 .taken) (c .before .before .before .before .before .before .put-gate .ensures) (c .before .before .put-gate2 .ensures)
+returns c =
+    let at-put-gate2 = c .before .before in
+    let at-put-gate = at-put-gate2 .before .before .before .before in
+    let in-then = at-put-gate .before .before in
+    low-kept _ _ _ _ _ _ _ _ (in-then .if1 .taken) (at-put-gate .put-gate .ensures) (at-put-gate2 .put-gate2 .ensures)
 
 returns-2 : tie.Need-returns-2
 returns-2 c = low-left _ _ _ _ _ _ (c .if1 .left)

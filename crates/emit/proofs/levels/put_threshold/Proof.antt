@@ -28,10 +28,10 @@ same-length c = search needs
 
 returns : tie.Need-returns
 returns c =
-    let p = c .before .before .before in
-    let s = c .before .before .before .before .before .before .before in
-    let a = s .args in
-    (part-wrote (a .next) (a .d) (now (a .ws)) (now (a .out)) _ (a .at) _ _ (omega arith) (omega arith) (omega arith) (p .put-cells .ensures .0) (p .put-cells .ensures .1 .0) (c .down-of .ensures .1), omega arith)
+    let at-put-cells = c .before .before .before in
+    let start = at-put-cells .before .before .before .before in
+    let a = start .args in
+    (part-wrote (a .next) (a .d) (now (a .ws)) (now (a .out)) _ (a .at) _ _ (omega arith) (omega arith) (omega arith) (at-put-cells .put-cells .ensures .0) (at-put-cells .put-cells .ensures .1 .0) (c .down-of .ensures .1), omega arith)
 
 pub put-threshold-spec : {M : Type 1} → statement M
 put-threshold-spec =

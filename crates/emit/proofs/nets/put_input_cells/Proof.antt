@@ -14,11 +14,12 @@ use Rattle.emit.proofs.nets.put_input_cells.Statement.{statement}
 use Rattle.emit.proofs.nets.put_input_cells.Tie as tie
 
 -- the wires lent are those of the inputs
-inputs : (c : tie.After-put-cells-arg2) → let n = c .before .before .before .before .before .before .before .before .args .n in
-    take n (c .before .before .before .before .put-wires .last .0) ≡ upFrom 0 n
+inputs : (c : tie.After-put-cells-arg2) → let at-put-wires = c .before .before .before .before in let start = at-put-wires .before .before .before .before in let n = start .args .n in
+    take n (at-put-wires .put-wires .last .0) ≡ upFrom 0 n
 inputs c =
-    let s = c .before .before .before .before .before .before .before .before in
-    wires-taken (s .args .n) (now (s .args .wires)) _ (omega arith) (c .before .before .before .before .put-wires .ensures)
+    let at-put-wires = c .before .before .before .before in
+    let start = at-put-wires .before .before .before .before in
+    wires-taken (start .args .n) (now (start .args .wires)) _ (omega arith) (at-put-wires .put-wires .ensures)
 
 put-wires-requires : tie.Need-put-wires-requires
 put-wires-requires c κs = search needs
@@ -27,11 +28,16 @@ slice-reshare-prefix-put-cells : tie.Need-slice-reshare-prefix-put-cells
 slice-reshare-prefix-put-cells c = search needs
 
 slice-aggregate-put-cells : tie.Need-slice-aggregate-put-cells
-slice-aggregate-put-cells c = let n = c .before .before .before .before .before .before .before .before .args .n in sym (ap length (inputs c) ∙ upFrom-length 0 n)
+slice-aggregate-put-cells c =
+    let at-put-wires = c .before .before .before .before in
+    let start = at-put-wires .before .before .before .before in
+    let n = start .args .n in sym (ap length (inputs c) ∙ upFrom-length 0 n)
 
 put-cells-requires : tie.Need-put-cells-requires
 put-cells-requires c κs =
-    let n = c .before .before .before .before .before .before .before .before .args .n in
+    let at-put-wires = c .before .before .before .before in
+    let start = at-put-wires .before .before .before .before in
+    let n = start .args .n in
     rw (inputs c) ((omega (arith, upFrom-length 0 n), omega (arith, upFrom-length 0 n), omega arith, omega (arith, upFrom-at 0 n 0 (omega arith))), omega arith)
 
 same-length : tie.Need-same-length
@@ -42,8 +48,12 @@ same-length-2 c = search needs
 
 returns : tie.Need-returns
 returns c =
-    let a = c .before .before .before .before .before .before .before .before .before .before .before .args in
-    c .before .before .put-cells .ensures .0 ∙ ap (λ (w : List ℕ). putGates (now (a .out)) 3 (cells w (a .lows) (a .highs) (a .n))) (inputs (c .before .before .before))
+    let at-put-cells = c .before .before in
+    let at-put-cells-arg2 = at-put-cells .before in
+    let at-put-wires = at-put-cells-arg2 .before .before .before .before in
+    let start = at-put-wires .before .before .before .before in
+    let a = start .args in
+    at-put-cells .put-cells .ensures .0 ∙ ap (λ (w : List ℕ). putGates (now (a .out)) 3 (cells w (a .lows) (a .highs) (a .n))) (inputs at-put-cells-arg2)
 
 pub put-input-cells-spec : {M : Type 1} → statement M
 put-input-cells-spec =

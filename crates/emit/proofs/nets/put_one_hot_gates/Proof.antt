@@ -16,7 +16,11 @@ same-length : tie.Need-same-length
 same-length c = search needs
 
 returns : tie.Need-returns
-returns c = alone One _ _ _ 3 (hot-none (c .before .before .before .before .before .before .before .args .n) (c .before .before .before .before .if1 .taken)) (c .before .before .put-gate .ensures)
+returns c =
+    let at-put-gate = c .before .before in
+    let in-then = at-put-gate .before .before in
+    let start = in-then .before .before .before in
+    alone One _ _ _ 3 (hot-none (start .args .n) (in-then .if1 .taken)) (at-put-gate .put-gate .ensures)
 
 add-put-input-cells : tie.Need-add-put-input-cells
 add-put-input-cells c = search needs
@@ -31,7 +35,11 @@ same-length-3 : tie.Need-same-length-3
 same-length-3 c = search needs
 
 returns-2 : tie.Need-returns-2
-returns-2 c = let a = c .before .before .before .before .before .before .before .before .before .before .args in c .before .before .before .before .put-input-cells .ensures ∙ ap (putGates (now (a .out)) 3) (sym (hot-cells (a .n) (c .before .before .before .before .before .before .before .if1 .left)))
+returns-2 c =
+    let at-put-input-cells = c .before .before .before .before in
+    let in-else = at-put-input-cells .before .before .before in
+    let start = in-else .before .before .before in
+    let a = start .args in at-put-input-cells .put-input-cells .ensures ∙ ap (putGates (now (a .out)) 3) (sym (hot-cells (a .n) (in-else .if1 .left)))
 
 pub put-one-hot-gates-spec : {M : Type 1} → statement M
 put-one-hot-gates-spec =

@@ -43,9 +43,11 @@ same-length-2 c = search needs
 
 returns-2 : tie.Need-returns-2
 returns-2 c =
-    let s = c .before .before .before .before .before .before in
-    let a = s .args in
-    c .before .before .put-wires .ensures ∙ ap (sets (now (a .out)) (a .at)) (hot-outs (a .n) (a .g) (c .before .before .before .before .if1 .left) (s .pre .2))
+    let at-put-wires = c .before .before in
+    let in-else = at-put-wires .before .before in
+    let start = in-else .before .before in
+    let a = start .args in
+    at-put-wires .put-wires .ensures ∙ ap (sets (now (a .out)) (a .at)) (hot-outs (a .n) (a .g) (in-else .if1 .left) (start .pre .2))
 
 pub put-one-hot-outs-spec : {M : Type 1} → statement M
 put-one-hot-outs-spec =

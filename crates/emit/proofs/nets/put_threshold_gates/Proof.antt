@@ -16,7 +16,11 @@ same-length : tie.Need-same-length
 same-length c = search needs
 
 returns : tie.Need-returns
-returns c = let s = c .before .before .before .before .before .before .before in alone Zero _ _ _ 3 (threshold-zero (s .args .d) (s .args .n) (c .before .before .before .before .if1 .taken) (omega arith)) (c .before .before .put-gate .ensures)
+returns c =
+    let at-put-gate = c .before .before in
+    let in-then = at-put-gate .before .before in
+    let start = in-then .before .before .before in
+    alone Zero _ _ _ 3 (threshold-zero (start .args .d) (start .args .n) (in-then .if1 .taken) (omega arith)) (at-put-gate .put-gate .ensures)
 
 put-input-cells-requires : tie.Need-put-input-cells-requires
 put-input-cells-requires c κs = let s = c .before .before .before .before .before in let e = ap length (threshold-cells (s .args .d) (s .args .n) (omega arith) (c .before .before .if1 .left)) in ((omega arith, omega arith, omega arith), omega arith)
@@ -29,9 +33,11 @@ same-length-3 c = search needs
 
 returns-2 : tie.Need-returns-2
 returns-2 c =
-    let s = c .before .before .before .before .before .before .before .before .before .before in
-    let a = s .args in
-    c .before .before .before .before .put-input-cells .ensures ∙ ap (putGates (now (a .out)) 3) (sym (threshold-cells (a .d) (a .n) (omega arith) (c .before .before .before .before .before .before .before .if1 .left)))
+    let at-put-input-cells = c .before .before .before .before in
+    let in-else = at-put-input-cells .before .before .before in
+    let start = in-else .before .before .before in
+    let a = start .args in
+    at-put-input-cells .put-input-cells .ensures ∙ ap (putGates (now (a .out)) 3) (sym (threshold-cells (a .d) (a .n) (omega arith) (in-else .if1 .left)))
 
 pub put-threshold-gates-spec : {M : Type 1} → statement M
 put-threshold-gates-spec =

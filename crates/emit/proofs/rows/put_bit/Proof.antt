@@ -23,18 +23,20 @@ same-length c = search needs
 
 returns : tie.Need-returns
 returns c =
-    let f = c .before .before in
-    let t = f .before .before in
-    let s = t .before .before .before .before .before .before in
-    let ws = s .args .ws .now in
-    bit-bare _ _ _ _ _ (s .pre .0 .0) (s .pre .0 .1) (vars-length _ _ _ ∙ s .pre .0 .2) _ _ _ _
-    (bare _ _ _ (λ k h. omega (arith, or-above ws _ k h, t .before .or-all .ensures, t .if1 .taken))) (f .put-filtered .ensures)
+    let at-put-filtered = c .before .before in
+    let in-then = at-put-filtered .before .before in
+    let at-or-all = in-then .before in
+    let start = at-or-all .before .before .before .before .before in
+    let ws = start .args .ws .now in
+    bit-bare _ _ _ _ _ (start .pre .0 .0) (start .pre .0 .1) (vars-length _ _ _ ∙ start .pre .0 .2) _ _ _ _
+    (bare _ _ _ (λ k h. omega (arith, or-above ws _ k h, at-or-all .or-all .ensures, in-then .if1 .taken))) (at-put-filtered .put-filtered .ensures)
 
 put-vars-requires : tie.Need-put-vars-requires
 put-vars-requires c κs =
-    let s = c .before .before .before .before .before .before .before .before in
-    let q = large (s .args .instance) (s .pre .0 .0) (s .pre .0 .1) in
-    let f = nots-few (s .args .row .now) (s .args .ws .now) in
+    let at-or-all = c .before .before .before in
+    let start = at-or-all .before .before .before .before .before in
+    let q = large (start .args .instance) (start .pre .0 .0) (start .pre .0 .1) in
+    let f = nots-few (start .args .row .now) (start .args .ws .now) in
     ((omega arith, omega arith), (omega (arith, q .row-least, q .row-most), omega (arith, q .row-most, q .bit-most)))
 
 sub-i : tie.Need-sub-i
@@ -51,13 +53,16 @@ add-i c = search needs
 
 put-filtered-requires-2 : tie.Need-put-filtered-requires-2
 put-filtered-requires-2 c κs =
-    let s = c .before .before .before .before .before .before .before .before .before .before .before .before .before .before .before in
-    let q = large (s .args .instance) (s .pre .0 .0) (s .pre .0 .1) in
-    let f = nots-few (s .args .row .now) (s .args .ws .now) in
-    let v = c .before .before .before .before .before .before .put-vars .ensures in
-    let x = vars-at (s .args .next) 81 (s .args .row .now) (s .args .ws .now) (omega (arith, q .row-least)) (s .pre .1 .0 .0) in
+    let at-xs = c .before .before .before in
+    let at-put-vars = at-xs .before .before .before in
+    let at-or-all = at-put-vars .before .before .before .before in
+    let start = at-or-all .before .before .before .before .before in
+    let q = large (start .args .instance) (start .pre .0 .0) (start .pre .0 .1) in
+    let f = nots-few (start .args .row .now) (start .args .ws .now) in
+    let v = at-put-vars .put-vars .ensures in
+    let x = vars-at (start .args .next) 81 (start .args .row .now) (start .args .ws .now) (omega (arith, q .row-least)) (start .pre .1 .0 .0) in
     let e = ap (λ (l : List ℕ). getD l 81 0) (v .1 .1) in
-    ((s .pre .0 .0, s .pre .0 .1, omega arith, omega (arith, v .0), omega (arith, v .0, q .row-most, q .bit-most)), omega (arith, v .0))
+    ((start .pre .0 .0, start .pre .0 .1, omega arith, omega (arith, v .0), omega (arith, v .0, q .row-most, q .bit-most)), omega (arith, v .0))
 
 same-length-2 : tie.Need-same-length-2
 same-length-2 c = search needs
@@ -67,11 +72,13 @@ same-length-3 c = search needs
 
 returns-2 : tie.Need-returns-2
 returns-2 c =
-    let f = c .before .before in
-    let v = f .before .before .before .before .before .before .before in
-    let s = v .before .before .before .before .before .before .before .before .before in
-    bit-wrote _ _ _ _ _ (s .pre .0 .0) (s .pre .0 .1) (vars-length _ _ _ ∙ s .pre .0 .2) _ _ _ _ _ _ _ (v .put-vars .ensures .1 .0) (v .put-vars .ensures .0) (v .put-vars .ensures .1 .1)
-    (f .put-filtered2 .ensures)
+    let at-put-filtered2 = c .before .before in
+    let at-xs = at-put-filtered2 .before .before .before .before in
+    let at-put-vars = at-xs .before .before .before in
+    let at-or-all = at-put-vars .before .before .before .before in
+    let start = at-or-all .before .before .before .before .before in
+    bit-wrote _ _ _ _ _ (start .pre .0 .0) (start .pre .0 .1) (vars-length _ _ _ ∙ start .pre .0 .2) _ _ _ _ _ _ _ (at-put-vars .put-vars .ensures .1 .0) (at-put-vars .put-vars .ensures .0) (at-put-vars .put-vars .ensures .1 .1)
+    (at-put-filtered2 .put-filtered2 .ensures)
 
 pub put-bit-spec : {M : Type 1} → statement M
 put-bit-spec =

@@ -12,16 +12,21 @@ Inv-loop out₀ at instance key next idx wh xs₀ wires₀ i₀ wire₀ start₀
 abbrev μ-loop : tie.MeasureT-loop
 μ-loop out₀ at instance key next idx wh xs₀ wires₀ i₀ wire₀ start₀ j₀ out xs wires i wire start j = length wires₀ - j
 
-turn-at : (l : tie.In-loop Inv-loop μ-loop) → let a = l .before .before .before .before .before .before .before .args in let v = l .before .loop in Turn (a .instance) (a .idx .now) (a .wh .now) (v .out) (v .xs) (v .i) (v .wire) (v .start) (v .j)
+turn-at : (l : tie.In-loop Inv-loop μ-loop) → let lent = l .before .before .before .before .before in let entry = lent .before .before in let a = entry .args in let v = l .before .loop in Turn (a .instance) (a .idx .now) (a .wh .now) (v .out) (v .xs) (v .i) (v .wire) (v .start) (v .j)
 turn-at l =
-    let p = l .before .before .before .before .before .before .before .pre .0 in
+    let lent = l .before .before .before .before .before in
+    let entry = lent .before .before in
+    let p = entry .pre .0 in
     turn _ _ _ _ _ _ _ (p .0) (omega arith) (p .4) _ _ _ _ _ _ _ (l .before .loop .inv) (omega arith)
 
-bound-at : (b : tie.After-put-bit Inv-loop μ-loop) → let v = b .before .before .before .before .before .before .loop in Bound (v .out) (v .i) (v .wire) (b .put-bit .result)
+bound-at : (b : tie.After-put-bit Inv-loop μ-loop) → let in-loop = b .before .before .before .before .before in let at-loop = in-loop .before in let v = at-loop .loop in Bound (v .out) (v .i) (v .wire) (b .put-bit .result)
 bound-at b =
-    let l = b .before .before .before .before .before in
-    let p = l .before .before .before .before .before .before .before .pre .0 in
-    last-bound _ _ _ _ _ _ _ (p .0) (omega arith) (p .4) _ _ _ _ _ _ _ (l .before .loop .inv) (omega arith) _ (p .1) _ _ (b .put-bit .ensures)
+    let in-loop = b .before .before .before .before .before in
+    let at-loop = in-loop .before in
+    let lent = at-loop .before .before .before .before .before in
+    let entry = lent .before in
+    let p = entry .pre .0 in
+    last-bound _ _ _ _ _ _ _ (p .0) (omega arith) (p .4) _ _ _ _ _ _ _ (at-loop .loop .inv) (omega arith) _ (p .1) _ _ (b .put-bit .ensures)
 
 loop-holds : tie.Need-loop-holds Inv-loop μ-loop
 loop-holds c = let s = c .before .before .before .before .before in bitting-start _ _ _ _ _ _ _ (s .pre .0 .0) (omega arith) (s .pre .0 .4) _ _ (s .pre .0 .2) refl (s .pre .1)
@@ -58,9 +63,11 @@ part-put-bit-end-2 c = omega (arith, turn-at (c .before .before) .ends-wh)
 
 put-bit-requires : tie.Need-put-bit-requires Inv-loop μ-loop
 put-bit-requires c κs =
-    let l = c .before .before .before .before in
-    let p = l .before .before .before .before .before .before .before .pre .0 in
-    let t = turn-at l in
+    let in-loop = c .before .before .before .before in
+    let lent = in-loop .before .before .before .before .before in
+    let entry = lent .before .before in
+    let p = entry .pre .0 in
+    let t = turn-at in-loop in
     ((p .0 .low, p .0 .high, t .row, t .white ∙ sym (t .row), omega (arith, t .row)), ((t .below, t .small), t .space))
 
 mul-wires : tie.Need-mul-wires Inv-loop μ-loop
@@ -107,23 +114,31 @@ loop-less c = omega arith
 
 loop-again : tie.Need-loop-again Inv-loop μ-loop
 loop-again c =
-    let b = c .before .before .before .before in
-    let l = b .before .before .before .before .before in
-    let s = l .before .before .before .before .before .before .before in
-    let p = s .pre .0 in
-    bitting-turn _ _ _ _ _ _ _ (p .0) (omega arith) (p .4) _ _ _ _ _ _ _ (l .before .loop .inv) (omega arith) _ (p .1) _ _ (b .put-bit .ensures) _ (b .put-bit .kept .1 .1 .1 .1 .1 .1 .1 .0)
+    let at-put-bit = c .before .before .before .before in
+    let in-loop = at-put-bit .before .before .before .before .before in
+    let at-loop = in-loop .before in
+    let lent = at-loop .before .before .before .before .before in
+    let entry = lent .before in
+    let p = entry .pre .0 in
+    bitting-turn _ _ _ _ _ _ _ (p .0) (omega arith) (p .4) _ _ _ _ _ _ _ (at-loop .loop .inv) (omega arith) _ (p .1) _ _ (at-put-bit .put-bit .ensures) _ (at-put-bit .put-bit .kept .1 .1 .1 .1 .1 .1 .1 .0)
 
 same-length : tie.Need-same-length Inv-loop μ-loop
 same-length c = c .before .loop .inv .outLong
 
 same-length-2 : tie.Need-same-length-2 Inv-loop μ-loop
-same-length-2 c = c .before .loop .inv .xsLong ∙ sym (c .before .before .before .before .before .before .before .pre .0 .2)
+same-length-2 c =
+    let lent = c .before .before .before .before .before in
+    let entry = lent .before .before in
+    c .before .loop .inv .xsLong ∙ sym (entry .pre .0 .2)
 
 same-length-3 : tie.Need-same-length-3 Inv-loop μ-loop
 same-length-3 c = c .before .loop .inv .wiresLong
 
 returns : tie.Need-returns Inv-loop μ-loop
-returns c = let s = c .before .before .before .before .before .before .before in bitting-end _ _ _ _ _ _ _ (s .pre .0 .0) (omega arith) (s .pre .0 .4) _ _ _ _ _ _ _ (c .before .loop .inv) (omega arith)
+returns c =
+    let lent = c .before .before .before .before .before in
+    let entry = lent .before .before in
+    bitting-end _ _ _ _ _ _ _ (entry .pre .0 .0) (omega arith) (entry .pre .0 .4) _ _ _ _ _ _ _ (c .before .loop .inv) (omega arith)
 
 pub put-bits-spec : {M : Type 1} → statement M
 put-bits-spec =

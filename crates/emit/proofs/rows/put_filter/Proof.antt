@@ -26,14 +26,16 @@ add-put-threshold-2 c = search needs
 
 sub-put-threshold : tie.Need-sub-put-threshold
 sub-put-threshold c =
-    let s = c .before .before .before .before .before .before .before .before in
-    let z = five (s .args .instance) (length (s .args .xs .now)) (c .before .if1 .left) (s .pre .0 .1) (s .pre .0 .2) in
+    let at-put-sum = c .before .before .before .before in
+    let start = at-put-sum .before .before .before .before in
+    let z = five (start .args .instance) (length (start .args .xs .now)) (c .before .if1 .left) (start .pre .0 .1) (start .pre .0 .2) in
     omega arith
 
 part-put-threshold-start : tie.Need-part-put-threshold-start
 part-put-threshold-start c =
-    let s = c .before .before .before .before .before .before .before .before in
-    let z = five (s .args .instance) (length (s .args .xs .now)) (c .before .if1 .left) (s .pre .0 .1) (s .pre .0 .2) in
+    let at-put-sum = c .before .before .before .before in
+    let start = at-put-sum .before .before .before .before in
+    let z = five (start .args .instance) (length (start .args .xs .now)) (c .before .if1 .left) (start .pre .0 .1) (start .pre .0 .2) in
     omega arith
 
 part-put-threshold-end : tie.Need-part-put-threshold-end
@@ -41,9 +43,11 @@ part-put-threshold-end c = search needs
 
 put-threshold-requires : tie.Need-put-threshold-requires
 put-threshold-requires c κs =
-    let s = c .before .before .before .before .before .before .before .before .before in
-    let z = five (s .args .instance) (length (s .args .xs .now)) (c .before .before .if1 .left) (s .pre .0 .1) (s .pre .0 .2) in
-    let a = five-asks (s .args .at) (s .args .next) (s .args .instance) (s .args .xs .now) (z .0) (z .1) (length (s .args .out .now)) (s .pre .1) in
+    let in-else = c .before .before in
+    let at-put-sum = in-else .before .before .before in
+    let start = at-put-sum .before .before .before .before in
+    let z = five (start .args .instance) (length (start .args .xs .now)) (in-else .if1 .left) (start .pre .0 .1) (start .pre .0 .2) in
+    let a = five-asks (start .args .at) (start .args .next) (start .args .instance) (start .args .xs .now) (z .0) (z .1) (length (start .args .out .now)) (start .pre .1) in
     ((omega (arith, a .long), omega (arith, a .long), omega arith, omega (arith, a .long), omega arith, omega (arith, a .first)), omega (arith, a .room))
 
 add-put-gate : tie.Need-add-put-gate
@@ -51,9 +55,12 @@ add-put-gate c = search needs
 
 put-gate-requires : tie.Need-put-gate-requires
 put-gate-requires c κs =
-    let s = c .before .before .before .before .before .before .before .before .before .before .before .before .before in
-    let z = five (s .args .instance) (length (s .args .xs .now)) (c .before .before .before .before .before .before .if1 .left) (s .pre .0 .1) (s .pre .0 .2) in
-    omega (arith, five-room (s .args .instance) (s .args .at) _ (z .0) (s .pre .1))
+    let at-put-threshold = c .before .before .before in
+    let in-else = at-put-threshold .before .before .before in
+    let at-put-sum = in-else .before .before .before in
+    let start = at-put-sum .before .before .before .before in
+    let z = five (start .args .instance) (length (start .args .xs .now)) (in-else .if1 .left) (start .pre .0 .1) (start .pre .0 .2) in
+    omega (arith, five-room (start .args .instance) (start .args .at) _ (z .0) (start .pre .1))
 
 add-result : tie.Need-add-result
 add-result c = search needs
@@ -63,12 +70,13 @@ same-length-2 c = search needs
 
 returns-2 : tie.Need-returns-2
 returns-2 c =
-    let s = c .before .before .before .before .before .before .before .before .before .before .before .before .before .before .before .before in
-    let z = five (s .args .instance) (length (s .args .xs .now)) (c .before .before .before .before .before .before .before .before .before .if1 .left) (s .pre .0 .1) (s .pre .0 .2) in
-    let g = c .before .before in
-    let t = g .before .before .before .before in
-    let u = t .before .before .before .before .before .before in
-    five-wrote _ _ _ _ (z .0) (z .1) _ _ _ _ _ _ (u .put-sum .ensures) (t .put-threshold .ensures .0) (g .put-gate .ensures)
+    let at-put-gate = c .before .before in
+    let at-put-threshold = at-put-gate .before .before .before .before in
+    let in-else = at-put-threshold .before .before .before in
+    let at-put-sum = in-else .before .before .before in
+    let start = at-put-sum .before .before .before .before in
+    let z = five (start .args .instance) (length (start .args .xs .now)) (in-else .if1 .left) (start .pre .0 .1) (start .pre .0 .2) in
+    five-wrote _ _ _ _ (z .0) (z .1) _ _ _ _ _ _ (at-put-sum .put-sum .ensures) (at-put-threshold .put-threshold .ensures .0) (at-put-gate .put-gate .ensures)
 
 pub put-filter-spec : {M : Type 1} → statement M
 put-filter-spec =

@@ -13,9 +13,10 @@ put-filter-requires c κs = search needs
 
 sub-put-gate : tie.Need-sub-put-gate
 sub-put-gate c =
-    let s = c .before .before .before .before .before .before .before .before in
-    let q = large (s .args .instance) (s .pre .0 .0) (s .pre .0 .1) in
-    let k = c .before .before .before .before .before .bit-gates .ensures .0 in
+    let at-bit-gates = c .before .before .before .before .before in
+    let start = at-bit-gates .before .before .before in
+    let q = large (start .args .instance) (start .pre .0 .0) (start .pre .0 .1) in
+    let k = at-bit-gates .bit-gates .ensures .0 in
     omega (arith, q .row-least, q .row-most)
 
 mul-put-gate : tie.Need-mul-put-gate
@@ -26,16 +27,20 @@ add-put-gate c = search needs
 
 put-gate-requires : tie.Need-put-gate-requires
 put-gate-requires c κs =
-    let s = c .before .before .before .before .before .before .before .before in
-    let q = large (s .args .instance) (s .pre .0 .0) (s .pre .0 .1) in
-    let k = c .before .before .before .before .before .bit-gates .ensures .0 in
+    let at-bit-gates = c .before .before .before .before .before in
+    let start = at-bit-gates .before .before .before in
+    let q = large (start .args .instance) (start .pre .0 .0) (start .pre .0 .1) in
+    let k = at-bit-gates .bit-gates .ensures .0 in
     omega (arith, q .row-least, q .row-most)
 
 sub-result : tie.Need-sub-result
 sub-result c =
-    let s = c .before .before .before .before .before .before .before .before .before .before .before in
-    let q = large (s .args .instance) (s .pre .0 .0) (s .pre .0 .1) in
-    let k = c .before .before .before .before .before .before .before .before .bit-gates .ensures .0 in
+    let at-put-gate = c .before .before in
+    let at-put-filter = at-put-gate .before .before .before .before in
+    let at-bit-gates = at-put-filter .before .before in
+    let start = at-bit-gates .before .before .before in
+    let q = large (start .args .instance) (start .pre .0 .0) (start .pre .0 .1) in
+    let k = at-bit-gates .bit-gates .ensures .0 in
     omega (arith, q .row-least, q .row-most)
 
 cast-result : tie.Need-cast-result

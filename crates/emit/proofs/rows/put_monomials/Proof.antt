@@ -15,7 +15,7 @@ Inv-loop out₀ at next degrees xs first acc₀ used₀ j₀ out acc used j = On
 abbrev μ-loop : tie.MeasureT-loop
 μ-loop out₀ at next degrees xs first acc₀ used₀ j₀ out acc used j = length degrees - j
 
-fitting-at : (l : tie.In-loop Inv-loop μ-loop) → let a = l .before .before .before .before .before .before .before .before .before .before .before .before .args in let v = l .before .loop in Fitting (a .degrees .now) (a .xs .now) (v .used) (v .j)
+fitting-at : (l : tie.In-loop Inv-loop μ-loop) → let at-put-chain = l .before .before .before .before in let at-wide = at-put-chain .before .before .before in let start = at-wide .before .before .before .before .before in let a = start .args in let v = l .before .loop in Fitting (a .degrees .now) (a .xs .now) (v .used) (v .j)
 fitting-at l = fitting _ _ _ _ _ _ _ _ _ _ _ (l .before .loop .inv) (l .loop-test .taken)
 
 shared-slice-read-wide : tie.Need-shared-slice-read-wide Inv-loop μ-loop
@@ -26,22 +26,27 @@ wide-requires c κs = search needs
 
 slice-aggregate-put-chain : tie.Need-slice-aggregate-put-chain Inv-loop μ-loop
 slice-aggregate-put-chain c =
-    let p = c .before .before .before .before .before .before .before .pre in
-    let f = summing-first [] 0 0 (c .before .before .before .before .before .before .before .args .degrees .now) (c .before .before .before .before .before .before .before .args .xs .now) (p .0 .0) (p .0 .1) in
-    omega (arith, length-take (c .before .before .wide .result) (c .before .before .before .before .before .before .before .args .xs .now))
+    let at-wide = c .before .before in
+    let start = at-wide .before .before .before .before .before in
+    let p = start .pre in
+    let f = summing-first [] 0 0 (start .args .degrees .now) (start .args .xs .now) (p .0 .0) (p .0 .1) in
+    omega (arith, length-take (at-wide .wide .result) (start .args .xs .now))
 
 put-chain-requires : tie.Need-put-chain-requires Inv-loop μ-loop
 put-chain-requires c κs =
-    let p = c .before .before .before .before .before .before .before .pre in
-    let f = summing-first [] 0 0 (c .before .before .before .before .before .before .before .args .degrees .now) (c .before .before .before .before .before .before .before .args .xs .now) (p .0 .0) (p .0 .1) in
-    let l = length-take (c .before .before .wide .result) (c .before .before .before .before .before .before .before .args .xs .now) in (omega arith, omega arith, omega arith)
+    let at-wide = c .before .before in
+    let start = at-wide .before .before .before .before .before in
+    let p = start .pre in
+    let f = summing-first [] 0 0 (start .args .degrees .now) (start .args .xs .now) (p .0 .0) (p .0 .1) in
+    let l = length-take (at-wide .wide .result) (start .args .xs .now) in (omega arith, omega arith, omega arith)
 
 loop-holds : tie.Need-loop-holds Inv-loop μ-loop
 loop-holds c =
-    let s = c .before .before .before .before .before .before .before .before .before .before in
-    let p = s .pre in
-    let h = c .before .before in
-    let g = summing-start _ _ _ _ _ _ _ _ _ (p .0 .0) (p .0 .1) (h .before .before .before .wide .ensures) refl (h .put-chain .ensures) in
+    let at-put-chain = c .before .before in
+    let at-wide = at-put-chain .before .before .before in
+    let start = at-wide .before .before .before .before .before in
+    let p = start .pre in
+    let g = summing-start _ _ _ _ _ _ _ _ _ (p .0 .0) (p .0 .1) (at-wide .wide .ensures) refl (at-put-chain .put-chain .ensures) in
     ((_, g), λ o x. x)
 
 shared-slice-read-wide-2 : tie.Need-shared-slice-read-wide-2 Inv-loop μ-loop
@@ -108,10 +113,11 @@ same-length c = as-long _ _ _ _ _ _ _ _ _ _ _ (c .before .loop .inv) ∙ c .befo
 
 returns : tie.Need-returns Inv-loop μ-loop
 returns c =
-    let s = c .before .before .before .before .before .before .before .before .before .before .before .before in
-    let p = s .pre in
-    let h = c .before .before .before .before in
-    let g = summing-start _ _ _ _ _ _ _ _ _ (p .0 .0) (p .0 .1) (h .before .before .before .wide .ensures) refl (h .put-chain .ensures) in
+    let at-put-chain = c .before .before .before .before in
+    let at-wide = at-put-chain .before .before .before in
+    let start = at-wide .before .before .before .before .before in
+    let p = start .pre in
+    let g = summing-start _ _ _ _ _ _ _ _ _ (p .0 .0) (p .0 .1) (at-wide .wide .ensures) refl (at-put-chain .put-chain .ensures) in
     summing-end _ _ _ _ _ _ _ _ _ (c .before .loop .inv .1 _ g) (c .loop-test .left)
 
 pub put-monomials-spec : {M : Type 1} → statement M

@@ -90,7 +90,11 @@ same-length-5 c = search needs
 
 returns-5 : tie.Need-returns-5
 unfolding degreesOf
-returns-5 c = let e : c .before .before .before .before .before .before .before .before .args .instance ≡ 5 = omega arith in rw e (c .before .before .put-monomials5 .ensures)
+returns-5 c =
+    let at-put-monomials5 = c .before .before in
+    let lent = at-put-monomials5 .before .before .before .before .before in
+    let start = lent .before in
+    let e : start .args .instance ≡ 5 = omega arith in rw e (at-put-monomials5 .put-monomials5 .ensures)
 
 pub put-sum-spec : {M : Type 1} → statement M
 put-sum-spec =

@@ -70,7 +70,10 @@ same-length : tie.Need-same-length Inv-loop μ-loop
 same-length c = c .before .loop .inv .outLong
 
 same-length-2 : tie.Need-same-length-2 Inv-loop μ-loop
-same-length-2 c = c .before .loop .inv .xsLong ∙ sym (c .before .before .before .before .before .before .pre .0 .1)
+same-length-2 c =
+    let lent = c .before .before .before .before .before in
+    let start = lent .before in
+    c .before .loop .inv .xsLong ∙ sym (start .pre .0 .1)
 
 returns : tie.Need-returns Inv-loop μ-loop
 returns c =

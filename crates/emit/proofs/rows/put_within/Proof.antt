@@ -12,9 +12,11 @@ sizes-of-requires c κs = search needs
 
 cast-put-net : tie.Need-cast-put-net
 cast-put-net c =
-    let z = c .before .sizes-of .ensures in
-    let s = c .before .before .before .before .before .before .before in
-    let p = s .pre .0 in
+    let at-sizes-of = c .before in
+    let lent = at-sizes-of .before .before .before .before .before in
+    let start = lent .before in
+    let z = at-sizes-of .sizes-of .ensures in
+    let p = start .pre .0 in
     let q = large _ (p .0 .low) (p .0 .high) in
     let k = ap (λ (x : Sizes). x .key) z in
     let w = ap (λ (x : Sizes). x .row) z in
@@ -22,9 +24,11 @@ cast-put-net c =
 
 slice-relend-prefix-put-net : tie.Need-slice-relend-prefix-put-net
 slice-relend-prefix-put-net c =
-    let z = c .before .sizes-of .ensures in
-    let s = c .before .before .before .before .before .before .before in
-    let p = s .pre .0 in
+    let at-sizes-of = c .before in
+    let lent = at-sizes-of .before .before .before .before .before in
+    let start = lent .before in
+    let z = at-sizes-of .sizes-of .ensures in
+    let p = start .pre .0 in
     let q = large _ (p .0 .low) (p .0 .high) in
     let k = ap (λ (x : Sizes). x .key) z in
     let w = ap (λ (x : Sizes). x .row) z in
@@ -32,37 +36,43 @@ slice-relend-prefix-put-net c =
 
 slice-aggregate-put-net : tie.Need-slice-aggregate-put-net
 slice-aggregate-put-net c =
-    let z = c .before .before .sizes-of .ensures in
-    let s = c .before .before .before .before .before .before .before .before in
-    let p = s .pre .0 in
+    let at-sizes-of = c .before .before in
+    let lent = at-sizes-of .before .before .before .before .before in
+    let start = lent .before in
+    let z = at-sizes-of .sizes-of .ensures in
+    let p = start .pre .0 in
     let q = large _ (p .0 .low) (p .0 .high) in
     let k = ap (λ (x : Sizes). x .key) z in
     let w = ap (λ (x : Sizes). x .row) z in
-    omega (arith, q .row-most, q .bit-most, length-take (c .before .before .sizes-of .result .row) (s .args .xs .now))
+    omega (arith, q .row-most, q .bit-most, length-take (at-sizes-of .sizes-of .result .row) (start .args .xs .now))
 
 slice-relend-prefix-put-net-2 : tie.Need-slice-relend-prefix-put-net-2
 slice-relend-prefix-put-net-2 c = search needs
 
 slice-aggregate-put-net-2 : tie.Need-slice-aggregate-put-net-2
 slice-aggregate-put-net-2 c =
-    let z = c .before .before .before .sizes-of .ensures in
-    let s = c .before .before .before .before .before .before .before .before .before in
-    let p = s .pre .0 in
+    let at-sizes-of = c .before .before .before in
+    let lent = at-sizes-of .before .before .before .before .before in
+    let start = lent .before in
+    let z = at-sizes-of .sizes-of .ensures in
+    let p = start .pre .0 in
     let q = large _ (p .0 .low) (p .0 .high) in
     let k = ap (λ (x : Sizes). x .key) z in
     let w = ap (λ (x : Sizes). x .row) z in
-    omega (arith, p .0 .few, length-take (s .args .m) (s .args .wires .now))
+    omega (arith, p .0 .few, length-take (start .args .m) (start .args .wires .now))
 
 put-net-requires : tie.Need-put-net-requires
 put-net-requires c κs =
-    let z = c .before .before .before .sizes-of .ensures in
-    let s = c .before .before .before .before .before .before .before .before .before in
-    let p = s .pre .0 in
+    let at-sizes-of = c .before .before .before in
+    let lent = at-sizes-of .before .before .before .before .before in
+    let start = lent .before in
+    let z = at-sizes-of .sizes-of .ensures in
+    let p = start .pre .0 in
     let q = large _ (p .0 .low) (p .0 .high) in
     let k = ap (λ (x : Sizes). x .key) z in
     let w = ap (λ (x : Sizes). x .row) z in (
-      (p .0, k, omega (arith, q .row-most, q .bit-most, length-take (c .before .before .before .sizes-of .result .row) (s .args .xs .now)), omega (arith, p .0 .few, length-take (s .args .m) (s .args .wires .now))),
-      s .pre .1,
+      (p .0, k, omega (arith, q .row-most, q .bit-most, length-take (at-sizes-of .sizes-of .result .row) (start .args .xs .now)), omega (arith, p .0 .few, length-take (start .args .m) (start .args .wires .now))),
+      start .pre .1,
     )
 
 same-length : tie.Need-same-length
