@@ -182,17 +182,7 @@ pub fn encipher(
 }
 
 /// Undoes [`encipher`], by adding the same bits once more.
-pub fn decipher(
-    instance: u32,
-    m: u32,
-    key: &[u8],
-    record: &[u8],
-    indices: &[u32],
-    whitening: &[u8],
-    result: &mut [u8],
-) -> Answer {
-    encipher(instance, m, key, record, indices, whitening, result)
-}
+pub use self::encipher as decipher;
 
 /// Any of the three calls, with the search for repeated indices to use.
 pub fn run(instance: u32, m: u32, lists: &Lists, result: &mut [u8], search: Search) -> Answer {

@@ -70,6 +70,11 @@ impl Call {
         )
     }
 
+    /// The record, where it takes one.
+    pub fn record(&self) -> &[u8] {
+        self.record.as_deref().expect("a call with a record")
+    }
+
     /// The keystream, with the record if there is one.
     pub fn expected(&self) -> Vec<u8> {
         let mut expected = self.keystream();
@@ -242,6 +247,26 @@ impl List {
             (List::Whitening, true) => 4,
         }
     }
+
+    /// How long it is there.
+    pub fn length(self, call: &Call) -> usize {
+        match self {
+            List::Key => call.key.len(),
+            List::Record => call.record().len(),
+            List::Indices => call.indices.len(),
+            List::Whitening => call.whitening.len(),
+        }
+    }
+
+    /// The list itself, where it is one of bits.
+    pub fn bits(self, call: &mut Call) -> &mut Vec<u8> {
+        match self {
+            List::Key => &mut call.key,
+            List::Record => call.record.as_mut().expect("a call with a record"),
+            List::Whitening => &mut call.whitening,
+            List::Indices => panic!("indices are no bits"),
+        }
+    }
 }
 
 /// What can be wrong with a cipher call, in the order in which it is judged.
@@ -381,9 +406,8 @@ pub fn inflict(random: &mut Random, call: &mut Call, fault: Fault) -> Condition 
         }
         Fault::Length(list) => {
             let length = match list {
-                List::Key => resize(random, &mut call.key, 1),
-                List::Record => resize(random, record(call), 1),
-                List::Whitening => resize(random, &mut call.whitening, sizes.row),
+                List::Key | List::Record => resize(random, list.bits(call), 1),
+                List::Whitening => resize(random, list.bits(call), sizes.row),
                 List::Indices => {
                     let length = other_length(random, call.indices.len(), sizes.row);
                     while call.indices.len() < length {
@@ -397,15 +421,9 @@ pub fn inflict(random: &mut Random, call: &mut Call, fault: Fault) -> Condition 
             (3, list.number(call), length)
         }
         Fault::NotBit(list) => {
-            let number = list.number(call);
-            let bytes = match list {
-                List::Key => &mut call.key,
-                List::Record => record(call),
-                _ => &mut call.whitening,
-            };
-            let place = place(random, bytes.len());
-            bytes[place] = random.no_bit();
-            (4, number, place)
+            let place = place(random, list.length(call));
+            list.bits(call)[place] = random.no_bit();
+            (4, list.number(call), place)
         }
         Fault::Index => {
             let place = place(random, call.indices.len());
@@ -436,10 +454,6 @@ pub fn inflict(random: &mut Random, call: &mut Call, fault: Fault) -> Condition 
             (8, List::Whitening.number(call) + 1, room)
         }
     }
-}
-
-fn record(call: &mut Call) -> &mut Vec<u8> {
-    call.record.as_mut().expect("a call with a record")
 }
 
 /// Puts up to `count` different faults into a sound call, and some of them more

@@ -1,22 +1,23 @@
 //! Calls through a C interface: a list goes over as its first place and its
 //! length.
 
-/// Makes a function of each call of a library, whose name there stands first.
-/// Calls take numbers, lists to read and lists to write, as the functions do;
-/// the two functions before them give the first place of such lists.
+/// Makes a function of each call of a library, whose name there stands before
+/// it. A call takes numbers, lists to read and lists to write, as the function
+/// does; the two functions at the front give the first place of such lists.
 ///
-/// `returned` are answers of up to two words. A longer one is returned through
+/// An answer of up to two words is `returned`. A longer one is returned through
 /// a pointer that the caller passes first and gets back: the rule of x86-64, by
 /// which the library is compiled. It is written out, so that it is the same on
 /// a processor whose own rule is another.
 macro_rules! foreign {
     (
         $first:expr, $first_mut:expr, returned:
-        $($call:ident => $name:ident($($list:ident:
+        $($call:ident => $shown:vis fn $name:ident($($list:ident:
             $(&[$read:ty])? $(&mut [$write:ty])? $($number:ident)?
         ),*) -> $answer:ty;)*
     ) => {$(
-        pub fn $name($($list: $(&[$read])? $(&mut [$write])? $($number)?),*) -> $answer {
+        #[allow(clippy::too_many_arguments)]
+        $shown fn $name($($list: $(&[$read])? $(&mut [$write])? $($number)?),*) -> $answer {
             extern "C" {
                 fn $call($(
                     $(_: *const $read, _: usize)? $(_: *mut $write, _: usize)? $(_: $number)?
@@ -36,11 +37,11 @@ macro_rules! foreign {
     )*};
     (
         $first:expr, $first_mut:expr, returned through a pointer:
-        $($call:ident => $name:ident($($list:ident:
+        $($call:ident => $shown:vis fn $name:ident($($list:ident:
             $(&[$read:ty])? $(&mut [$write:ty])? $($number:ident)?
         ),*) -> $answer:ty;)*
     ) => {$(
-        pub fn $name($($list: $(&[$read])? $(&mut [$write])? $($number)?),*) -> $answer {
+        $shown fn $name($($list: $(&[$read])? $(&mut [$write])? $($number)?),*) -> $answer {
             extern "C" {
                 fn $call(_: *mut $answer, $(
                     $(_: *const $read, _: usize)? $(_: *mut $write, _: usize)? $(_: $number)?

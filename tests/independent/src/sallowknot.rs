@@ -20,16 +20,16 @@ fn first_mut(list: &mut [u8]) -> *mut u8 {
 }
 
 foreign! { first, first_mut, returned:
-    sallowknot_kreyvium_encipher => kreyvium_encipher(
+    sallowknot_kreyvium_encipher => pub fn kreyvium_encipher(
         m: u32, key: &[u8], record: &[u8], iv: &[u8], result: &mut [u8]
     ) -> u64;
-    sallowknot_check_file => check_file(source: &[u8]) -> u64;
-    sallowknot_frames_append => frames_append(
+    sallowknot_check_file => pub fn check_file(source: &[u8]) -> u64;
+    sallowknot_frames_append => pub fn frames_append(
         key: &[u8], record: &[u8], iv: &[u8], file: &[u8], frame: &mut [u8]
     ) -> u64;
-    sallowknot_frames_append_after => frames_append_after(
+    sallowknot_frames_append_after => pub fn frames_append_after(
         key: &[u8], record: &[u8], iv: &[u8], last: &[u8], frame: &mut [u8]
     ) -> u64;
-    sallowknot_frames_read => frames_read(key: &[u8], file: &[u8], records: &mut [u8]) -> u64;
-    sallowknot_frames_check => frames_check(file: &[u8]) -> u64;
+    sallowknot_frames_read => pub fn frames_read(key: &[u8], file: &[u8], records: &mut [u8]) -> u64;
+    sallowknot_frames_check => pub fn frames_check(file: &[u8]) -> u64;
 }

@@ -172,7 +172,7 @@ fn deciphering_undoes_enciphering() {
             (instance, m) = (1 + round % 6, [1, 1, 2, 3, 5, 9][round as usize / 6]);
         }
         let mut call = Kind::Encipher.sound(&mut random, instance, m);
-        let record = call.record.clone().expect("made with one");
+        let record = call.record().to_vec();
         let there = Kind::Encipher.bits(&call);
         let stream = Call {
             record: None,
@@ -277,22 +277,15 @@ fn every_list_length() {
         for kind in KINDS {
             let sound = kind.sound(&mut random, instance, 2);
             for list in [List::Key, List::Record, List::Indices, List::Whitening] {
-                let exact = match list {
-                    List::Key => sound.key.len(),
-                    List::Record => 2,
-                    List::Indices => sound.indices.len(),
-                    List::Whitening => sound.whitening.len(),
-                };
                 if list == List::Record && !kind.has_record() {
                     continue;
                 }
+                let exact = list.length(&sound);
                 for length in lengths_near(exact) {
                     let mut call = sound.clone();
                     match list {
-                        List::Key => call.key.resize(length, 0),
-                        List::Record => call.record = Some(vec![0; length]),
                         List::Indices => call.indices.resize(length, 0),
-                        List::Whitening => call.whitening.resize(length, 0),
+                        _ => list.bits(&mut call).resize(length, 0),
                     }
                     let expected = if length == exact {
                         Answer::DONE
@@ -325,11 +318,7 @@ fn every_place_of_a_bit() {
     for instance in [1, 5, 6] {
         let sound = Kind::Encipher.sound(&mut random, instance, 2);
         for list in [List::Key, List::Record, List::Whitening] {
-            let length = match list {
-                List::Key => sound.key.len(),
-                List::Record => 2,
-                _ => sound.whitening.len(),
-            };
+            let length = list.length(&sound);
             // Most places of the longest keys are passed over.
             let step = 1 + length / 2_000;
             let places = (0..length).step_by(step).chain([length - 1]);
@@ -337,11 +326,7 @@ fn every_place_of_a_bit() {
                 let byte = random.pick(&[2, 3, 16, 127, 128, 254, 255]);
                 for byte in [byte, 1] {
                     let mut call = sound.clone();
-                    match list {
-                        List::Key => call.key[place] = byte,
-                        List::Record => call.record.as_mut().expect("made with one")[place] = byte,
-                        _ => call.whitening[place] = byte,
-                    }
+                    list.bits(&mut call)[place] = byte;
                     let expected = match (byte, list, instance) {
                         (1, List::Whitening, 1) => refusal(7, 4, place),
                         (1, ..) => continue,
@@ -694,7 +679,7 @@ fn small_stack() {
     let mut random = seeded(218);
     for instance in cipher_cases::instances() {
         let call = Kind::Encipher.sound(&mut random, instance, 64);
-        let record = call.record.as_deref().expect("made with one");
+        let record = call.record();
         let mut case = (instance <= 5).then(|| cipher_cases::sound_choice(&mut random, instance));
         let mut there = vec![9; 64];
         let mut back = vec![9; 64];

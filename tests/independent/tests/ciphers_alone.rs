@@ -309,14 +309,14 @@ fn deciphering_undoes_enciphering() {
     for _ in 0..300 {
         let (instance, m) = cipher_cases::size(&mut random);
         let call = cipher_cases::sound(&mut random, instance, m, true);
-        let record = call.record.expect("made with one");
+        let record = call.record();
         let (key, indices, whitening) = (&call.key, &call.indices, &call.whitening);
         let bits = m as u32;
         let mut stream = vec![9; m];
         let answer = keystream(instance, bits, key, indices, whitening, &mut stream);
         assert_eq!(answer, Answer::DONE);
         let mut there = vec![9; m];
-        let answer = encipher(instance, bits, key, &record, indices, whitening, &mut there);
+        let answer = encipher(instance, bits, key, record, indices, whitening, &mut there);
         assert_eq!(answer, Answer::DONE);
         for at in 0..m {
             assert_eq!(there[at], record[at] ^ stream[at]);

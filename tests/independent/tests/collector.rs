@@ -10,7 +10,7 @@ use independent::frame_cases::{
     FILE_FAULTS, LISTS,
 };
 use independent::frames::{FRAME, RECORD};
-use independent::key::lent_key;
+use independent::key::{key_length, lent_key};
 use independent::netlist::{refusal, Answer};
 use independent::random::{fill, seeded, Random};
 use independent::stack::on_stacks;
@@ -95,7 +95,7 @@ fn empty_lists() {
         file: vec![],
         frame: vec![],
     };
-    for (list, length) in LISTS.into_iter().zip([128, 64, 128]) {
+    for (list, length) in LISTS.into_iter().zip([key_length(128), 64, 128]) {
         for last_alone in [false, true] {
             assert_eq!(append(&case, last_alone).0, refusal(3, list.number(), 0));
         }

@@ -119,24 +119,16 @@ fn every_number_of_bits() {
 /// The lists that the call reads, and how it counts them.
 const LISTS: [(List, u32); 3] = [(List::Key, 1), (List::Record, 2), (List::Whitening, 3)];
 
-fn list(call: &mut Call, list: List) -> &mut Vec<u8> {
-    match list {
-        List::Key => &mut call.key,
-        List::Record => call.record.as_mut().expect("a call with a record"),
-        _ => &mut call.whitening,
-    }
-}
-
 #[test]
 fn every_list_length() {
     let mut random = seeded(502);
     for m in [1, 2, 63, 64] {
         let sound = sound(&mut random, m);
-        for (of, number) in LISTS {
-            let exact = if of == List::Record { m } else { 128 };
+        for (list, number) in LISTS {
+            let exact = list.length(&sound);
             for length in (0..=140).chain([255, 256, 257, 65_535, 65_536, 65_537, 70_000]) {
                 let mut call = sound.clone();
-                list(&mut call, of).resize(length, 0);
+                list.bits(&mut call).resize(length, 0);
                 let expected = match length == exact {
                     true => Answer::DONE,
                     false => refusal(3, number, length),
@@ -166,17 +158,16 @@ fn every_list_length() {
 fn every_place_of_a_bit() {
     let mut random = seeded(503);
     let sound = sound(&mut random, 64);
-    for (of, number) in LISTS {
-        let length = if of == List::Record { 64 } else { 128 };
-        for place in 0..length {
+    for (list, number) in LISTS {
+        for place in 0..list.length(&sound) {
             for byte in [2, 3, 4, 127, 128, 129, 254, 255] {
                 let mut call = sound.clone();
-                list(&mut call, of)[place] = byte;
+                list.bits(&mut call)[place] = byte;
                 assert_eq!(encipher(&call).0, refusal(4, number, place));
             }
             // Either bit is one.
             let mut call = sound.clone();
-            list(&mut call, of)[place] ^= 1;
+            list.bits(&mut call)[place] ^= 1;
             enciphered(&call);
         }
     }
@@ -374,8 +365,7 @@ fn from_many_threads() {
         let source = &source;
         move || {
             for call in part.iter().cycle().take(2_000) {
-                let record = call.record.as_deref().expect("a call with a record");
-                let (key, iv) = (&call.key, &call.whitening);
+                let (key, record, iv) = (&call.key, call.record(), &call.whitening);
                 let mut result = [9; 64];
                 let answer = sallowknot::kreyvium_encipher(64, key, record, iv, &mut result);
                 assert_eq!(answer, 0);

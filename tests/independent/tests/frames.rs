@@ -13,7 +13,7 @@ use independent::frame_cases::{
     FileFault, List, Reading, FILE_FAULTS, LISTS,
 };
 use independent::frames::{self, FRAME, RECORD, WIDTHS};
-use independent::key::lent_key;
+use independent::key::{key_length, lent_key};
 use independent::lent::show;
 use independent::netlist::{refusal, Answer};
 use independent::probe;
@@ -220,7 +220,7 @@ fn empty_lists() {
         frame: vec![],
     };
     let mut case = nothing.clone();
-    for (list, length) in [(List::Key, 128), (List::Record, 64), (List::Iv, 128)] {
+    for (list, length) in LISTS.into_iter().zip([key_length(128), 64, 128]) {
         let expected = refusal(3, list.number(), 0);
         assert_eq!(appended(&case), expected);
         assert_eq!(appended_after(&case), expected);

@@ -10,7 +10,7 @@ use crate::sallowknot;
 /// Kreyvium's enciphering. The answer, and what the result then holds.
 pub fn encipher(call: &Call) -> (Answer, Vec<u8>) {
     let m = call.m;
-    let record = call.record.as_deref().expect("a call with a record");
+    let record = call.record();
     let case = || {
         format!(
             "enciphering of {m} bits: key {}, record {}, IV {}, room for {}",
