@@ -14,7 +14,7 @@ use Rattle.netlist.specs.Emitted.{Emitted}
 use Rattle.evaluate.specs.Evaluate.{Evaluated}
 use Rattle.meter.specs.declared.Level.{Level}
 use Rattle.meter.specs.declared.Metered.{Metered}
-use Rattle.meter.specs.Levels.{levels, leftLevels}
+use Rattle.meter.specs.Levels.{levels}
 use Rattle.meter.specs.Meter.{MeteredAs}
 use Rattle.glue.specs.Glue.{GluedAs}
 use Rattle.choice.specs.Choice.{Chosen}
@@ -77,7 +77,7 @@ meter-decides net ds ls {r} {s} x y =
     let t = x .multiplied ∙ ap (λ (t : Answer). ifDone t (mults (netOf net))) p ∙ sym (y .multiplied) in (
       metered-eq r s p q t,
       x .filled ∙ sym (y .filled),
-      x .counted ∙ ap (λ (t : Answer). leftLevels t (levels net) ls) p ∙ sym (y .counted),
+      x .counted ∙ ap (λ (t : Answer). left t (levels net) ls) p ∙ sym (y .counted),
     )
   where
     metered-eq : (r s : Metered) → r .answer ≡ s .answer → r .depth ≡ s .depth → r .multiplications ≡ s .multiplications → r ≡ s
