@@ -219,55 +219,55 @@ gained-le spot zero h = omega arith
 gained-le spot (suc g) h = omega (arith, gained-le spot g (λ k l. h k (omega arith)), h g (omega arith) .2)
 
 -- ---- for the turns of that loop: what is added fits, and so does the sum
-module _ {net ds : List ℕ} {i n : ℕ} {ls : List Level} (t : Tallies net ds i n ls) where
-  so-far : (g : ℕ) → g ≤ n → Countable (spotOf net ds) g (length ls)
-  so-far g l =
-      record { limit = omega (arith, t .countable .limit); slight = λ k q. t .countable .slight k (omega arith); low = λ k q. t .countable .low k (omega arith) }
+module _ {spot : ℕ → Spot} {n : ℕ} (ls : List Level) (t : Countable spot n (length ls)) where
+  so-far : (g : ℕ) → g ≤ n → Countable spot g (length ls)
+  so-far g l = record { limit = omega (arith, t .limit); slight = λ k q. t .slight k (omega arith); low = λ k q. t .low k (omega arith) }
 
-  pub gained-fits : (g : ℕ) → g ≤ n → gained (spotOf net ds) g < 2 ^ 32
-  gained-fits g l = omega (arith, gained-le (spotOf net ds) g (so-far g l .slight), t .countable .limit)
+  pub gained-fits : (g : ℕ) → g ≤ n → gained spot g < 2 ^ 32
+  gained-fits g l = omega (arith, gained-le spot g (so-far g l .slight), t .limit)
 
-  module _ (g : ℕ) (l : g < n) {s : Spot} (e : s ≡ spotOf net ds g) where
+  module _ (g : ℕ) (l : g < n) {s : Spot} (e : s ≡ spot g) where
     pub spot-inside : s .at < length ls
-    spot-inside = omega (arith, ap (λ (p : Spot). p .at) e, t .countable .low g l)
+    spot-inside = omega (arith, ap (λ (p : Spot). p .at) e, t .low g l)
 
-    pub sums-fit : (getD (tallied (spotOf net ds) g ls) (s .at) noGates .ands + s .ands < 2 ^ 32) × (getD (tallied (spotOf net ds) g ls) (s .at) noGates .muxes + s .muxes < 2 ^ 32)
-    sums-fit =
-        let none : getD ls (s .at) noGates ≡ noGates = ap (λ (p : Spot). getD ls (p .at) noGates) e ∙ t .none g l in
-        let few : Slight s = subst Slight (sym e) (t .countable .slight g l) in
-        let had = tallied-small (spotOf net ds) ls (s .at) g none (so-far g (omega arith)) in
-        (omega (arith, had .0, few .0, t .countable .limit), omega (arith, had .1, few .1, t .countable .limit))
+    -- where the record counted nothing at first
+    pub sums-fit : getD ls (spot g .at) noGates ≡ noGates
+        → (getD (tallied spot g ls) (s .at) noGates .ands + s .ands < 2 ^ 32) × (getD (tallied spot g ls) (s .at) noGates .muxes + s .muxes < 2 ^ 32)
+    sums-fit z =
+        let none : getD ls (s .at) noGates ≡ noGates = ap (λ (p : Spot). getD ls (p .at) noGates) e ∙ z in
+        let few : Slight s = subst Slight (sym e) (t .slight g l) in
+        let had = tallied-small spot ls (s .at) g none (so-far g (omega arith)) in
+        (omega (arith, had .0, few .0, t .limit), omega (arith, had .1, few .1, t .limit))
 
-    pub gained-more : gained (spotOf net ds) g + s .multiplications ≡ gained (spotOf net ds) (suc g)
-    gained-more = ap (λ (p : Spot). gained (spotOf net ds) g + p .multiplications) e ∙ sum-more _ g
+    pub gained-more : gained spot g + s .multiplications ≡ gained spot (suc g)
+    gained-more = ap (λ (p : Spot). gained spot g + p .multiplications) e ∙ sum-more _ g
 
--- ---- for the levels cleared and then counted: the first leaves what the second asks, and both together count
-module _ {net ds : List ℕ} {i g c : ℕ} {old : List Level} (s : Clears net ds i g c old) {mid : List Level} (e : mid ≡ over (replicate c noGates) old) where
-  pub levels-stand : Tallies net ds i g mid
-  levels-stand =
-      let long : length mid ≡ length old = ap length e ∙ fill-length noGates old c (s .room) in
-      record {
-        stands = s .stands;
-        countable = record { limit = s .countable .limit; slight = s .countable .slight; low = λ k h. omega (arith, s .countable .low k h, s .room) };
-        none = λ k h.
-            ap (λ (t : List Level). getD t (spotOf net ds k .at) noGates) e ∙ fill-at noGates old c (spotOf net ds k .at) (s .countable .low k h);
-      }
-
-  counts : (n : ℕ) → n ≤ g → tallied (spotOf net ds) n mid ≡ over (levelsBelow (spotOf net ds) n c) old
+-- ---- for the levels cleared and then counted: both together count, and the first leaves what the second asks
+module _ {spot : ℕ → Spot} {g c : ℕ} (old : List Level) (s : Countable spot g c) {mid : List Level} (e : mid ≡ over (replicate c noGates) old) where
+  counts : (n : ℕ) → n ≤ g → tallied spot n mid ≡ over (levelsBelow spot n c) old
   unfolding tallied withSpot
-  counts zero h = e ∙ ap (λ (f : List Level). over f old) (sym (below-none (spotOf net ds) c))
+  counts zero h = e ∙ ap (λ (f : List Level). over f old) (sym (below-none spot c))
   counts (suc n) h =
-      let spot = spotOf net ds n in
-      let now : List Level = levelsBelow (spotOf net ds) n c in
-      let low : spot .at < c = s .countable .low n (omega arith) in
-      let there : spot .at < length now = omega (arith, below-length (spotOf net ds) n c) in
-      let is : getD (over now old) (spot .at) noGates ≡ levelAt (spotOf net ds) n (spot .at) =
-      over-getD now old noGates (spot .at) there ∙ below-at (spotOf net ds) n c (spot .at) low in
-      ap (λ (t : List Level). set t (spot .at) (bump (getD t (spot .at) noGates) spot)) (counts n (omega arith))
-      ∙ ap (λ (v : Level). set (over now old) (spot .at) (bump v spot)) is
-      ∙ ap (set (over now old) (spot .at)) (sym (level-here (spotOf net ds) n))
-      ∙ over-set now old (spot .at) _ there
-      ∙ ap (λ (t : List Level). over t old) (below-more (spotOf net ds) n c low)
+      let d = spot n .at in
+      let now : List Level = levelsBelow spot n c in
+      let low : d < c = s .low n (omega arith) in
+      let there : d < length now = omega (arith, below-length spot n c) in
+      let is : getD (over now old) d noGates ≡ levelAt spot n d = over-getD now old noGates d there ∙ below-at spot n c d low in
+      ap (λ (t : List Level). set t d (bump (getD t d noGates) (spot n))) (counts n (omega arith))
+      ∙ ap (λ (v : Level). set (over now old) d (bump v (spot n))) is
+      ∙ ap (set (over now old) d) (sym (level-here spot n))
+      ∙ over-set now old d _ there
+      ∙ ap (λ (t : List Level). over t old) (below-more spot n c low)
 
-  pub both-count : {new : List Level} → new ≡ tallied (spotOf net ds) g mid → new ≡ over (levelsBelow (spotOf net ds) g c) old
+  pub both-count : {new : List Level} → new ≡ tallied spot g mid → new ≡ over (levelsBelow spot g c) old
   both-count h = h ∙ counts g (omega arith)
+
+pub levels-stand : {net ds : List ℕ} {i g c : ℕ} {old mid : List Level} → Clears net ds i g c old → mid ≡ over (replicate c noGates) old → Tallies net ds i g mid
+levels-stand {net} {ds} {c = c} {old = old} s e =
+    let long = ap length e ∙ fill-length noGates old c (s .room) in
+    record {
+      stands = s .stands;
+      countable = record { limit = s .countable .limit; slight = s .countable .slight; low = λ k h. omega (arith, s .countable .low k h, s .room, long) };
+      none = λ k h.
+          ap (λ (t : List Level). getD t (spotOf net ds k .at) noGates) e ∙ fill-at noGates old c (spotOf net ds k .at) (s .countable .low k h);
+    }

@@ -129,7 +129,7 @@ module _ {M : Type 1} (𝓤 : URA M) (H : Heap 𝓤) (A : Atoms 𝓤) (W : Given
   exits n w zs ws e e′ l =
       qed W (‵ (u32 .own n (w ∷ [])) ∷ Toks ∷ ‵ (finally T.the-row γ ws) ∷ (‵ Net ⊛ ‵ Ds) ∷ []) ∵
       suffices ! _ (ends-at 𝓤 H A f.ended stayed (f.clauses 𝓤 H A mem run) W (((κ₀, (κ₁, (κ₂, tt))), (q₀, (q₁, (q₂, tt))), tt, a, vals), tt) w n (tt, (tt, (ws, (tt, (tt, (tt, tt)))))) (tt, (tt, (l, (tt, (tt, (tt, tt))))))) $
-      says ! (e′ .0, both-count asks e (e′ .1)) $ move ! (1 ∷ []) $ frame ! $ move ! (1 ∷ 2 ∷ []) $
+      says ! (e′ .0, both-count olds (asks .countable) e (e′ .1)) $ move ! (1 ∷ []) $ frame ! $ move ! (1 ∷ 2 ∷ []) $
       -- [levels' last list; net and ds; the result's]: the parameters, from the last
       nothing ! $ owned ! usize (Is usize) (uint-makes 𝓤 H A W w64) count _ (refl, count-fits) $ fjoin ! $ owned ! usize (Is usize) (uint-makes 𝓤 H A W w64) gates _ (refl, gates-fits) $ fjoin ! $ owned ! usize (Is usize) (uint-makes 𝓤 H A W w64) inputs _ (refl, inputs-fits) $ fjoin ! $
       move ! (1 ∷ 0 ∷ []) $ fjoin ! $ move ! (1 ∷ []) $ split ! $ move ! (1 ∷ 2 ∷ []) $ fjoin ! $ move ! (1 ∷ 0 ∷ []) $ fjoin ! $ frame ! $ done !

@@ -149,7 +149,7 @@ module _ {M : Type 1} (𝓤 : URA M) (H : Heap 𝓤) (A : Atoms 𝓤) (W : Given
       -- [obs; the borrow; net; ds]: the parameters, from the last
       nothing ! $ owned ! usize (Is usize) (uint-makes 𝓤 H A W w64) gates _ (refl, gates-fits) $ fjoin ! $ owned ! usize (Is usize) (uint-makes 𝓤 H A W w64) inputs _ (refl, inputs-fits) $ fjoin ! $
       move ! (1 ∷ 2 ∷ []) $ fjoin ! $ pureI ! (at-slice T.the-row (x (zs gates)) (s ∷ [])) (tt, (tt, tt)) (ap (λ (m : ℕ). sliceVal (b, o) m ∷ []) (sym (length-zs gates)), subst (Room T.the-row) (sym (length-zs gates)) room) $ fjoin ! $ fjoin ! $
-      move ! (2 ∷ 0 ∷ []) $ fjoin ! $ move ! (1 ∷ 0 ∷ []) $ fjoin ! $ frame ! $ owned ! u32 (Is u32) (uint-makes 𝓤 H A W w32) (total gates) _ (refl, gained-fits asks gates (omega arith)) $ done !
+      move ! (2 ∷ 0 ∷ []) $ fjoin ! $ move ! (1 ∷ 0 ∷ []) $ fjoin ! $ frame ! $ owned ! u32 (Is u32) (uint-makes 𝓤 H A W w32) (total gates) _ (refl, gained-fits olds (asks .countable) gates (omega arith)) $ done !
 
   -- ---- the call of `spot_of` for gate i
   abbrev Args : Type 0
@@ -239,7 +239,7 @@ module _ {M : Type 1} (𝓤 : URA M) (H : Heap 𝓤) (A : Atoms 𝓤) (W : Given
           peeks ! S.the-row (Is S.the-row) (shows 𝓤 H A S.the-row) r (u ∷ []) (λ is.
           let told = LL.tells S.the-type S′.the-laws r (u ∷ []) is in
           let parts = LL.owed S.the-type S′.the-laws r _ (subst (Is S.the-row r) told is) in
-          let below : r .at < length olds = spot-inside asks i small e in
+          let below : r .at < length olds = spot-inside olds (asks .countable) i small e in
           let inside : r .at < length (zs i) = omega (arith, length-zs i) in
           let far : r .at * 8 < 2 ^ 64 = omega (arith, room .1) in
           land ! (from ! (stop !)) (init ! 13 refl (LL.lawful S.the-type S′.the-laws 𝓤 H A W .typed r _ is .0)) $ rewrite ! 13 (λ (w : Val). ‵ (fat fullShare S′.mir l₈ 0 w)) (ap only told) refl $ drop ! $
@@ -253,7 +253,7 @@ module _ {M : Type 1} (𝓤 : URA M) (H : Heap 𝓤) (A : Atoms 𝓤) (W : Given
           -- [levels[at]; what it owns; the others; the open borrow; obs; auth; tokens; net and ds; _1 .. _15; room for _0; …]
           let v = getD (zs i) (r .at) noGates in
           let w : Level = bump v r in
-          let fits = sums-fit asks i small e in
+          let fits = sums-fit olds (asks .countable) i small e (asks .none i small) in
           let had = LL.owed T.the-type T′.the-laws v _ was in
           let gw : Is T.the-row w (T′.lowered w ∷ []) = LL.owes T.the-type T′.the-laws w ((refl, fits .0), ((refl, fits .1), tt)) in
           assigns ! (of-opd ! (load ! (from ! (hop ! (look ! 19 refl) (fld ! refl (stop !)))) (look-in ! 0 (sub ! 0 refl (whole !))))) (from ! (stop !)) (init ! 20 refl (tt, record { fits = had .0 .1 })) $
@@ -268,11 +268,11 @@ module _ {M : Type 1} (𝓤 : URA M) (H : Heap 𝓤) (A : Atoms 𝓤) (W : Given
           move ! (1 ∷ []) $ drop ! $ owned ! T.the-row (Is T.the-row) ((LL.makes T.the-type T′.the-plain) 𝓤 H A) w _ gw $ move ! (1 ∷ 0 ∷ []) $ elem-put ! T.the-row fullShare (zs i) (r .at) w (T′.lowered w ∷ []) b o inside $
           closes-slice ! tt T.the-row (zs i) (set (zs i) (r .at) w) (length-set (zs i) (r .at) w) b o $
           -- [obs; the borrow; its token; tokens; net and ds; _1 .. _15; room for _0; …]
-          let sum-fits : total i + r .multiplications < 2 ^ 32 = omega (arith, gained-more asks i small e, gained-fits asks (suc i) small) in
+          let sum-fits : total i + r .multiplications < 2 ^ 32 = omega (arith, gained-more olds (asks .countable) i small e, gained-fits olds (asks .countable) (suc i) small) in
           assigns ! (bin ! (load ! (from ! (stop !)) (look ! 10 refl)) (load ! (from ! (fld ! refl (stop !))) (look-in ! 12 (sub ! 3 refl (whole !)))) (record { fits = sum-fits })) (from ! (stop !)) (store ! 10 refl (tt, record { fits = sum-fits })) $
           assigns-last ! (bin ! (load ! (from ! (stop !)) (look ! 11 refl)) (lit ! tt) (record { fits = next-fits })) (from ! (stop !)) (store ! 11 refl (tt, record { fits = next-fits })) $
           forget ! 12 refl $ forget ! 13 refl $ forget ! 14 refl $ forget ! 15 refl $ forget ! 16 refl $ forget ! 17 refl $ forget ! 18 refl $ forget ! 19 refl $
-          rewrite ! 10 (λ (j : ℕ). ‵ (fat fullShare half l₆ 0 (vint w32 j))) (gained-more asks i small e) refl $
+          rewrite ! 10 (λ (j : ℕ). ‵ (fat fullShare half l₆ 0 (vint w32 j))) (gained-more olds (asks .countable) i small e) refl $
           rewrite ! 11 (λ (j : ℕ). ‵ (fat fullShare word l₇ 0 (vint w64 j))) (add-one i) refl $
           rewrite ! 0 Obs (tallied-more spot olds i e) refl $ rewrite ! 1 Bor (tallied-more spot olds i e) refl $
           move ! (4 ∷ []) $ split ! $ move ! (2 ∷ 3 ∷ 4 ∷ 0 ∷ 1 ∷ []) $ by ! k)))))
@@ -285,7 +285,7 @@ module _ {M : Type 1} (𝓤 : URA M) (H : Heap 𝓤) (A : Atoms 𝓤) (W : Given
           assigns ! (bin ! (load ! (from ! (stop !)) (look ! 12 refl)) (load ! (from ! (stop !)) (look ! 10 refl)) tt) (from ! (stop !)) (init ! 15 refl (tt, tt)) $
           rewrite ! 15 (λ (t : Bool). ‵ (fat fullShare tyBool l₁₀ 0 (vbool t))) (le-ltb gates gates (omega arith)) refl $
           leaves-loop ! (load ! (from ! (stop !)) (look ! 15 refl)) $ exec ! C Λ En body.t-4 (atRet En Post) $
-          assigns ! (of-opd ! (load ! (from ! (stop !)) (look ! 11 refl))) (from ! (stop !)) (init ! 21 refl (tt, record { fits = gained-fits asks gates (omega arith) })) $
+          assigns ! (of-opd ! (load ! (from ! (stop !)) (look ! 11 refl))) (from ! (stop !)) (init ! 21 refl (tt, record { fits = gained-fits olds (asks .countable) gates (omega arith) })) $
           returns ! (look ! 21 refl) $ forget ! 6 refl $ forget ! 7 refl $ forget ! 8 refl $ forget ! 9 refl $ forget ! 10 refl $ forget ! 11 refl $ forget ! 12 refl $ forget ! 15 refl $ forget ! 21 refl $
           move ! (21 ∷ 22 ∷ []) $ free1 ! $ move ! (6 ∷ 21 ∷ []) $ free1 ! $ move ! (6 ∷ 20 ∷ []) $ free1 ! $ move ! (6 ∷ 19 ∷ []) $ free1 ! $ move ! (6 ∷ 18 ∷ []) $ free1 ! $ move ! (6 ∷ 17 ∷ []) $ free1 ! $ move ! (6 ∷ 16 ∷ []) $ free1 ! $ move ! (6 ∷ 15 ∷ []) $ free1 ! $ move ! (6 ∷ 14 ∷ []) $ free1 ! $ move ! (6 ∷ 13 ∷ []) $ free1 ! $ move ! (6 ∷ 12 ∷ []) $ free1 ! $ move ! (6 ∷ 11 ∷ []) $ free1 ! $ move ! (6 ∷ 10 ∷ []) $ free1 ! $ move ! (6 ∷ 9 ∷ []) $ free1 ! $ move ! (6 ∷ 8 ∷ []) $ free1 ! $ move ! (6 ∷ 7 ∷ []) $ free1 ! $ free0 ! $ by ! exits
 
