@@ -1,9 +1,9 @@
 -- A sound netlist is accepted by the meter, and the numbers it returns are the netlist's.
 use mathlib.Core.Path.{_≡_, sym, _∙_}
 use mathlib.Core.List.{List}
-use borrow.Author.Tests.{le-ltb}
 use Rattle.answer.specs.declared.Answer.the-variants.{Done}
-use Rattle.answer.proofs.Rows.{both, refuse-not, told}
+use Rattle.answer.proofs.Rows.{both, told}
+use Rattle.answer.proofs.Judges.{done-room}
 use Rattle.netlist.specs.Net.{depth, mults}
 use Rattle.netlist.specs.Words.{netOf}
 use Rattle.netlist.specs.Sound.{Sound}
@@ -18,7 +18,7 @@ module _ (net : List ℕ) (r : Metered) (s : Sound net) (m : MeterCall net r) wh
   unfolding meterAnswer depthsAnswer levelsAnswer
   meter-accepts =
       m .outcome .answered
-      ∙ both (both (sound-done 1 net s) (refuse-not _ _ _ (le-ltb _ _ (m .wires)))) (refuse-not _ _ _ (le-ltb _ _ (m .levels)))
+      ∙ both (both (sound-done 1 net s) (done-room 2 _ _ (m .wires))) (done-room 3 _ _ (m .levels))
 
   pub depth-is : r .depth ≡ depth (netOf net)
   depth-is = m .outcome .deep ∙ sym (told _ meter-accepts)
