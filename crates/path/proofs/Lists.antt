@@ -32,7 +32,7 @@ module _ (from to : ℕ) where
   refuse-renamed n l p false = refl
 
   bits-renamed : (l : ℕ) (s : List ℕ) → renamedTo from to (bitsAnswer l s) ≡ bitsAnswer (here l) s
-  unfolding bitsAnswer
+  unfolding bitsAnswer firstAnswer
   bits-renamed l s = refuse-renamed 4 l _ _
 
   rows-renamed : (l N n : ℕ) (s : List ℕ) → renamedTo from to (rowsAnswer l N n s) ≡ rowsAnswer (here l) N n s

@@ -1,5 +1,5 @@
 use borrow.Author.Tests.{eq-eqb, ne-eqb}
-use Rattle.path.specs.Steps.{renamedTo}
+use Rattle.path.specs.Inner.{renamedTo}
 use borrow.Author.Needs.{needs}
 use Rattle.path.proofs.judge.renamed.Statement.{statement}
 use Rattle.path.proofs.judge.renamed.Tie as tie
