@@ -2,9 +2,8 @@ use Prim.Native.Nat.{_-_}
 use borrow.Author.Needs.{needs}
 use lib.ListN.{length, drop}
 use Rattle.text.specs.Text.{outLines}
-use Rattle.text.specs.Puts.{Left}
+use Rattle.text.proofs.Parts.{Left, left-start, left-step, left-room, left-end}
 use Rattle.text.proofs.Netlists.{outs-turn, outs-none}
-use Rattle.text.proofs.Parts.{left-start, left-step, left-room, left-end}
 use Rattle.text.proofs.net.put_outputs.Statement.{statement}
 use Rattle.text.proofs.net.put_outputs.Tie as tie
 
