@@ -21,7 +21,11 @@ gate-at-requires : tie.Need-gate-at-requires Inv-loop μ-loop
 gate-at-requires c κs = omega arith
 
 put-gate-requires : tie.Need-put-gate-requires Inv-loop μ-loop
-put-gate-requires c κs = left-room _ _ _ (c .before .before .before .loop .inv .0) (gates-turn _ _ _ _ _ (c .before .before .loop-test .taken) (c .gate-at .ensures)) (c .before .before .before .before .before .before .pre .1)
+put-gate-requires c κs =
+    let in-loop = c .before .before in
+    let at-loop = in-loop .before in
+    let start = at-loop .before .before .before in
+    left-room _ _ _ (at-loop .loop .inv .0) (gates-turn _ _ _ _ _ (in-loop .loop-test .taken) (c .gate-at .ensures)) (start .pre .1)
 
 add-place : tie.Need-add-place Inv-loop μ-loop
 add-place c = omega arith
@@ -36,7 +40,12 @@ loop-less : tie.Need-loop-less Inv-loop μ-loop
 loop-less c = omega arith
 
 loop-again : tie.Need-loop-again Inv-loop μ-loop
-loop-again c = (left-step _ _ _ (c .before .before .before .before .before .before .loop .inv .0) (gates-turn _ _ _ _ _ (c .before .before .before .before .before .loop-test .taken) (c .before .before .before .gate-at .ensures)) (c .before .before .put-gate .ensures), omega arith, omega arith)
+loop-again c =
+    let at-put-gate = c .before .before in
+    let at-gate-at = at-put-gate .before in
+    let in-loop = at-gate-at .before .before in
+    let at-loop = in-loop .before in
+    (left-step _ _ _ (at-loop .loop .inv .0) (gates-turn _ _ _ _ _ (in-loop .loop-test .taken) (at-gate-at .gate-at .ensures)) (at-put-gate .put-gate .ensures), omega arith, omega arith)
 
 same-length : tie.Need-same-length Inv-loop μ-loop
 same-length c = c .before .loop .inv .0 .size
