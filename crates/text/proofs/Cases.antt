@@ -1,33 +1,33 @@
 -- The printed text by its cases, as the code comes to them.
-use Prim.Native.Nat.{ℕ, _+_, _*_, _≤_, _<_}
+use Prim.Native.Nat.{ℕ, _+_, _≤_, _<_}
 use mathlib.Core.Bool.{Bool, true, false}
 use mathlib.Core.Path.{_≡_, refl, sym, ap, subst, _∙_}
 use mathlib.Core.List.{List, _++_}
 use native.Mathlib.Omega.{arith}
-use borrow.Author.Tests.{le-ltb, ltb-false}
-use lib.ListN.{length, getD, take, drop, length-append}
+use lib.ListN.{length, take, drop, length-append}
 use lib.Seq.{length-take-le}
 use Rattle.answer.specs.declared.Answer.{Answer}
 use Rattle.answer.specs.declared.Answer.the-variants.{Done, Refused}
 use Rattle.answer.specs.Choose.{choose}
+use Rattle.answer.specs.Judges.{roomAnswer}
 use Rattle.answer.specs.Fronts.{over}
 use Rattle.answer.proofs.Rows.{first-done, refuse-done, refuse-not, both, untold, told}
-use Rattle.answer.proofs.Over.{kept, made, over-at, take-over}
+use Rattle.answer.proofs.Judges.{room-done, done-room}
+use Rattle.answer.proofs.Over.{kept, made, take-over}
 use Rattle.netlist.specs.Net.{depth, mults}
-use Rattle.netlist.specs.Words.{inputsOf, gatesOf, words}
+use Rattle.netlist.specs.declared.counts.Counts.{Counts}
+use Rattle.netlist.specs.Words.{countsOf, inputsOf, gatesOf, wordCount, netCounts, words}
 use Rattle.netlist.specs.Emitted.{Emitted}
 use Rattle.netlist.proofs.Puts.{words-length}
-use Rattle.answer.specs.Judges.{roomAnswer}
 use Rattle.cells.specs.Cells.{thresholdNet}
-use Rattle.cells.proofs.Facts.{threshold-outputs}
 use Rattle.emit.specs.Emit.{noThreshold, thresholdAnswer}
 use Rattle.line.specs.declared.Asked.{Asked}
 use Rattle.line.specs.declared.Asked.the-variants.{Line, Nothing}
 use Rattle.line.specs.Asked.{askedOf}
 use Rattle.line.proofs.Lines.{long-nothing}
 use Rattle.text.specs.declared.Printing.{Printing}
-use Rattle.text.specs.Text.{titleLine, netText, wordsText, refusal, thresholdText, textOf, printed, Kept, Printed}
-use Rattle.text.specs.Puts.{Room, Wrote}
+use Rattle.text.specs.Text.{titleLine, netText, refusal, thresholdText, textOf, printed, Kept, Printed}
+use Rattle.text.specs.Inner.{Room, Wrote, wordsText}
 use Rattle.text.proofs.Fits.{netlist-fits, threshold-few, printed-fits}
 use Rattle.text.proofs.Netlists.{words-text}
 use Rattle.text.proofs.Parts.{wrote-front, wrote-size}
@@ -64,9 +64,8 @@ emitted-few d n ws ok e = rw e (threshold-few d n ok)
 
 -- with room for the words, emission refuses exactly where there is no netlist
 answer-done : (d n room : ℕ) → 17160 ≤ room → noThreshold d n ≡ false → thresholdAnswer d n room ≡ Done
-unfolding thresholdAnswer roomAnswer
-answer-done d n room h ok =
-    both (refuse-not 13 0 0 ok) (refuse-not 8 1 room (le-ltb room _ (omega (arith, words-most d n ok))))
+unfolding thresholdAnswer
+answer-done d n room h ok = both (refuse-not 13 0 0 ok) (done-room 1 room _ (omega (arith, words-most d n ok)))
 
 pub refused-text : (d n room : ℕ) (r : Answer) {x y z : ℕ} → 17160 ≤ room → r ≡ thresholdAnswer d n room → r ≡ Refused x y z → refusal ≡ thresholdText d n
 unfolding thresholdText
@@ -87,23 +86,26 @@ module _ (d n : ℕ) (old new : List ℕ) (r : Answer) (e : Emitted (thresholdAn
   done-over : new ≡ over (words (thresholdNet d n)) old
   done-over = e .written ∙ sym (made _ _ f)
 
-  -- as many words as the header says
-  pub done-count : (g : ℕ) → g ≡ getD new 1 0 → 4 + 4 * g ≡ length (words (thresholdNet d n))
-  done-count g h =
-      let w = words (thresholdNet d n) in
-      let c : getD new 1 0 ≡ length (thresholdNet d n .gates) =
-      ap (λ (l : List ℕ). getD l 1 0) done-over ∙ over-at w old 1 (omega (arith, words-length (thresholdNet d n))) in
-      omega (arith, words-length (thresholdNet d n), threshold-outputs d n)
-
-  pub done-words : (g : ℕ) → g ≡ getD new 1 0 → take (4 + 4 * g) new ≡ words (thresholdNet d n)
-  done-words g h =
-      ap (λ (k : ℕ). take k new) (done-count g h)
-      ∙ ap (take (length (words (thresholdNet d n)))) done-over
-      ∙ take-over (words (thresholdNet d n)) old
-
-  pub done-room : (g : ℕ) → g ≡ getD new 1 0 → 4 + 4 * g ≤ length new
+  -- the header is the netlist's
+  done-counts : countsOf new ≡ netCounts (thresholdNet d n)
   unfolding over
-  done-room g h = omega (arith, done-count g h, ap length done-over, length-append (words (thresholdNet d n)) (drop (length (words (thresholdNet d n))) old))
+  done-counts = ap countsOf done-over
+
+  -- as many words as it says
+  module _ (c : Counts) (size : ℕ) (h : c ≡ countsOf new) (k : size ≡ wordCount c) where
+    done-size : size ≡ length (words (thresholdNet d n))
+    done-size = k ∙ ap wordCount (h ∙ done-counts) ∙ sym (words-length (thresholdNet d n))
+
+    pub done-words : take size new ≡ words (thresholdNet d n)
+    done-words =
+        ap (λ (k : ℕ). take k new) done-size
+        ∙ ap (take (length (words (thresholdNet d n)))) done-over
+        ∙ take-over (words (thresholdNet d n)) old
+
+    pub done-within : size ≤ length new
+    unfolding over
+    done-within =
+        omega (arith, done-size, ap length done-over, length-append (words (thresholdNet d n)) (drop (length (words (thresholdNet d n))) old))
 
 -- kept in the result, or not
 pub keep-none : (size : ℕ) (text old : List ℕ) (r : Answer) {x y z : ℕ} → size ≤ length text → r ≡ roomAnswer 2 (length old) size → r ≡ Refused x y z
@@ -116,8 +118,7 @@ keep-none size text old r k e h =
     }
 
 pub room-fits : (len needed : ℕ) (r : Answer) → r ≡ roomAnswer 2 len needed → r ≡ Done → needed ≤ len
-unfolding roomAnswer
-room-fits len needed r e h = ltb-false _ _ (refuse-done _ _ _ _ (sym e ∙ h))
+room-fits len needed r e h = room-done 2 len needed (sym e ∙ h)
 
 pub keep-all : (size end : ℕ) (text old new : List ℕ) (r : Answer) → size ≤ length text → r ≡ roomAnswer 2 (length old) size → r ≡ Done
     → Wrote (take size text) old 0 new end → Kept (take size text) old (record { answer = Done; size = end }) new
@@ -149,7 +150,6 @@ module _ (input list new : List ℕ) (size : ℕ) (w : Wrote (printed input) lis
 -- with 131,072 bytes lent the text is always there
 pub print-whole : (input old : List ℕ) (r : Printing) (new : List ℕ) → 131072 ≤ length old → Printed input old r new
     → (r .answer ≡ Done) × (r .size ≡ length (printed input)) × (new ≡ over (printed input) old)
-unfolding roomAnswer
 print-whole input old r new h p =
-    let e = p .answered ∙ refuse-not 8 2 (length old) (le-ltb (length old) _ (omega (arith, printed-fits input))) in
+    let e = p .answered ∙ done-room 2 (length old) _ (omega (arith, printed-fits input)) in
     (e, p .sized ∙ sym (told _ e), p .written ∙ sym (made _ _ e))

@@ -9,9 +9,11 @@ use lib.Seq.{drop-cons}
 use Rattle.netlist.specs.declared.gate.Gate.{Gate}
 use Rattle.netlist.specs.Gates.{gateOf}
 use Rattle.netlist.specs.Net.{Net, depth, mults}
-use Rattle.netlist.specs.Words.{gatePlace, gateAt, gatesAt, words}
+use Rattle.netlist.specs.declared.counts.Counts.{Counts}
+use Rattle.netlist.specs.Words.{headerWords, gateStride, gatePlace, countsOf, gateAt, gatesAt, words}
 use Rattle.netlist.proofs.Words.{netOf-words}
-use Rattle.text.specs.Text.{sizes, costs, gateLine, gateLines, outLine, outLines, netText, countedText, wordsText}
+use Rattle.text.specs.Text.{sizes, costs, gateLine, gateLines, outLine, outLines, netText}
+use Rattle.text.specs.Inner.{countedText, wordsText}
 
 pub decoded-gate : (ws : List ℕ) (s k a b c : ℕ) (g : Gate) → k ≡ getD ws s 0 → a ≡ getD ws (s + 1) 0 → b ≡ getD ws (s + 2) 0
     → c ≡ getD ws (s + 3) 0 → g ≡ gateOf k a b c → g ≡ gateAt ws s
@@ -19,7 +21,7 @@ decoded-gate ws s k a b c g e₀ e₁ e₂ e₃ h = h ∙ (λ i. gateOf (e₀ i)
 
 -- the next gate, and the rest
 pub gates-turn : (ws : List ℕ) (s w n : ℕ) (g : Gate) → 0 < n → g ≡ gateAt ws s
-    → gateLines w (gatesAt ws s n) ≡ gateLine w g ++ gateLines (w + 1) (gatesAt ws (s + 4) (n - 1))
+    → gateLines w (gatesAt ws s n) ≡ gateLine w g ++ gateLines (w + 1) (gatesAt ws (s + gateStride) (n - 1))
 unfolding gateLines
 gates-turn ws s w zero g h e = absurd (omega arith)
 gates-turn ws s w (suc n) g h e =
@@ -41,15 +43,15 @@ unfolding outLines
 outs-none ws i h = rw (drop-of-length-le ws h)
 
 -- counts read from the header
-pub counted : (ws : List ℕ) (I G O D M : ℕ) → I ≡ getD ws 0 0 → G ≡ getD ws 1 0 → O ≡ getD ws 2 0 → countedText ws I G O D M ≡ wordsText ws D M
+pub counted : (ws : List ℕ) (c : Counts) (D M : ℕ) → c ≡ countsOf ws → countedText ws c D M ≡ wordsText ws D M
 unfolding wordsText
-counted ws I G O D M e f g = λ i. countedText ws (e i) (f i) (g i) D M
+counted ws c D M e = ap (λ (c : Counts). countedText ws c D M) e
 
 -- a netlist's words, and the netlist
 pub words-text : (net : Net) (D M : ℕ) → D ≡ depth net → M ≡ mults net → wordsText (words net) D M ≡ netText net
 unfolding wordsText countedText netText
 words-text net D M e f =
-    let gs : gatesAt (words net) 3 (length (net .gates)) ≡ net .gates = ap Net.gates (netOf-words net) in
+    let gs : gatesAt (words net) headerWords (length (net .gates)) ≡ net .gates = ap Net.gates (netOf-words net) in
     let os : drop (gatePlace (length (net .gates))) (words net) ≡ net .outs = ap Net.outs (netOf-words net) in
     λ i.
     sizes (net .inputs) (length (net .gates)) (length (net .outs))

@@ -9,7 +9,13 @@ use lib.ListN.{length, getD, set, drop, length-append}
 use lib.Seq.{sets, length-sets, drop-cons, sets-eq}
 use Rattle.answer.specs.Fronts.{over}
 use Rattle.netlist.proofs.Puts.{sets-append}
-use Rattle.text.specs.Puts.{Room, Wrote, Left}
+use Rattle.text.specs.Inner.{Room, Wrote}
+
+-- For a loop: rest is still to be stored, from byte next on, of a text that goes from byte at on.
+pub record Left (text out : List ℕ) (at : ℕ) (rest out′ : List ℕ) (next : ℕ) : Type 0 where
+  pub bytes : sets out′ next rest ≡ sets out at text
+  pub past : next + length rest ≡ at + length text
+  pub size : length out′ ≡ length out
 
 -- nothing changes the length
 pub wrote-size : {text out out′ : List ℕ} {at r : ℕ} → Wrote text out at out′ r → length out′ ≡ length out

@@ -1,9 +1,13 @@
--- Text stored into a list of bytes, part after part.
+-- Inner: what contracts of this crate's private functions cite, and no promise that a caller reads. Text stored into a list of
+-- bytes, part after part; the printed text from a netlist's words.
 use Prim.Native.Nat.{ℕ, _+_, _≤_}
 use mathlib.Core.Path.{_≡_}
-use mathlib.Core.List.{List}
-use lib.ListN.{length}
+use mathlib.Core.List.{List, _++_}
+use lib.ListN.{length, drop}
 use lib.Seq.{sets}
+use Rattle.netlist.specs.declared.counts.Counts.{Counts}
+use Rattle.netlist.specs.Words.{headerWords, gatePlace, countsOf, gatesAt}
+use Rattle.text.specs.Text.{sizes, costs, gateLines, outLines}
 
 -- a text fits from byte at on
 pub record Room (text out : List ℕ) (at : ℕ) : Type 0 where
@@ -14,8 +18,13 @@ pub record Wrote (text out : List ℕ) (at : ℕ) (out′ : List ℕ) (r : ℕ) 
   pub bytes : out′ ≡ sets out at text
   pub past : r ≡ at + length text
 
--- For a loop: rest is still to be stored, from byte next on, of a text that goes from byte at on.
-pub record Left (text out : List ℕ) (at : ℕ) (rest out′ : List ℕ) (next : ℕ) : Type 0 where
-  pub bytes : sets out′ next rest ≡ sets out at text
-  pub past : next + length rest ≡ at + length text
-  pub size : length out′ ≡ length out
+-- what is printed of a netlist, from its words: c are the counts of its header, D its depth, M its multiplications
+unfoldable pub countedText : List ℕ → Counts → ℕ → ℕ → List ℕ
+countedText ws c D M =
+    sizes (c .inputs) (c .gates) (c .outputs)
+    ++ costs D M
+    ++ gateLines (c .inputs) (gatesAt ws headerWords (c .gates))
+    ++ outLines (drop (gatePlace (c .gates)) ws)
+
+unfoldable pub wordsText : List ℕ → ℕ → ℕ → List ℕ
+wordsText ws D M = countedText ws (countsOf ws) D M

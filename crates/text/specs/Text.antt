@@ -3,14 +3,13 @@
 use Prim.Native.Nat.{ℕ, suc}
 use mathlib.Core.Path.{_≡_}
 use mathlib.Core.List.{List, [], _∷_, _++_}
-use lib.ListN.{length, drop}
+use lib.ListN.{length}
 use Rattle.answer.specs.Choose.{choose}
 use Rattle.answer.specs.Answers.{ifDone}
 use Rattle.answer.specs.Fronts.{left}
 use Rattle.netlist.specs.declared.gate.Gate.{Gate}
 use Rattle.netlist.specs.declared.gate.Gate.the-variants.{Zero, One, Not, Xor, And, Mux}
 use Rattle.netlist.specs.Net.{Net, depth, mults}
-use Rattle.netlist.specs.Words.{inputsOf, gatesOf, outputsOf, gatePlace, gatesAt}
 use Rattle.answer.specs.Judges.{roomAnswer}
 use Rattle.cells.specs.Cells.{thresholdNet}
 use Rattle.emit.specs.Emit.{noThreshold}
@@ -112,12 +111,3 @@ pub record Kept (text old : List ℕ) (r : Printing) (new : List ℕ) : Type 0 w
 -- a call that was to print for an input
 abbrev pub Printed : List ℕ → List ℕ → Printing → List ℕ → Type 0
 Printed input old r new = Kept (printed input) old r new
-
--- For the code: the same text from a netlist's words. I, G and O are those of its header, D its depth, M its
--- multiplications
-unfoldable pub countedText : List ℕ → ℕ → ℕ → ℕ → ℕ → ℕ → List ℕ
-countedText ws I G O D M =
-    sizes I G O ++ costs D M ++ gateLines I (gatesAt ws 3 G) ++ outLines (drop (gatePlace G) ws)
-
-unfoldable pub wordsText : List ℕ → ℕ → ℕ → List ℕ
-wordsText ws D M = countedText ws (inputsOf ws) (gatesOf ws) (outputsOf ws) D M

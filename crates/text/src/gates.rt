@@ -4,13 +4,15 @@ use crate::put::put_decimal;
 use crate::put::put_named;
 use crate::put::put_pair;
 use crate::put::put_triple;
+use netlist::GATE_STRIDE;
+use netlist::HEADER_WORDS;
 use netlist::gate::Gate;
 use netlist::gate::Taken;
 ghost use mathlib.Core.Path.{_≡_};
 ghost use Prim.Native.Nat.{_+_, _≤_};
-ghost use Rattle.netlist.specs.Words.{gateAt, gatesAt};
+ghost use Rattle.netlist.specs.Words.{headerWords, gateAt, gatesAt};
 ghost use Rattle.text.specs.Text.{gateText, gateLine, gateLines};
-ghost use Rattle.text.specs.Puts.{Room, Wrote};
+ghost use Rattle.text.specs.Inner.{Room, Wrote};
 
 fn put_kind(out: &mut [u8], at: usize, gate: Gate) -> usize
     requires { ⌜ Room (gateText gate) (now out) at ⌝ }
@@ -55,16 +57,16 @@ fn gate_at(words: &[u32], place: usize) -> Gate
 // The lines of all gates of a netlist's words, the first of which is the wire after the inputs.
 pub(crate) fn put_gates(out: &mut [u8], at: usize, words: &[u32], inputs: u32, gates: u32) -> usize
     requires { ⌜ inputs + gates ≤ 65536 ⌝ }
-    requires { ⌜ Room (gateLines inputs (gatesAt (now words) 3 gates)) (now out) at ⌝ }
-    ensures { λ r. ⌜ Wrote (gateLines inputs (gatesAt (now (words .entry)) 3 gates)) (now (out .entry)) at (now (out .exit)) r ⌝ }
+    requires { ⌜ Room (gateLines inputs (gatesAt (now words) headerWords gates)) (now out) at ⌝ }
+    ensures { λ r. ⌜ Wrote (gateLines inputs (gatesAt (now (words .entry)) headerWords gates)) (now (out .entry)) at (now (out .exit)) r ⌝ }
 {
     let mut next = at;
-    let mut place: usize = 3;
+    let mut place: usize = HEADER_WORDS;
     let mut wire = inputs;
     let mut left = gates;
     while 0 < left {
         next = put_gate(out, next, wire, gate_at(words, place));
-        place += 4;
+        place += GATE_STRIDE;
         wire += 1;
         left -= 1;
     }

@@ -10,7 +10,7 @@ use line::Asked;
 ghost use Prim.Native.Nat.{_≤_};
 ghost use lib.ListN.{length, take};
 ghost use Rattle.text.specs.Text.{printed, Kept, Printed};
-ghost use Rattle.text.specs.Puts.{Wrote};
+ghost use Rattle.text.specs.Inner.{Wrote};
 
 // The answer, with the length of the text, 0 on a refusal.
 pub struct Printing {
@@ -19,7 +19,7 @@ pub struct Printing {
 }
 
 // The text for an input, from byte 0 on, and its length. Netlists of up to 64 inputs have at most 4,289
-// gates, so 3 + 4 * 4289 + 1 words.
+// gates, so 17,160 words with header and output (`words-most`).
 fn write(input: &[u8], text: &mut [u8]) -> usize
     requires { ⌜ 131072 ≤ length (now text) ⌝ }
     ensures { λ r. ⌜ Wrote (printed (now (input .entry))) (now (text .entry)) 0 (now (text .exit)) r ⌝ }

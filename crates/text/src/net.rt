@@ -3,11 +3,13 @@ use crate::gates::put_gates;
 use crate::put::put_bytes;
 use crate::put::put_named;
 use crate::put::put_pair;
+use netlist::GATE_STRIDE;
+use netlist::HEADER_WORDS;
 ghost use Prim.Native.Nat.{_+_, _≤_};
 ghost use lib.ListN.{drop};
 ghost use Rattle.netlist.specs.Words.{inputsOf, gatesOf};
-ghost use Rattle.text.specs.Text.{titleLine, sizes, costs, outLine, outLines, wordsText};
-ghost use Rattle.text.specs.Puts.{Room, Wrote};
+ghost use Rattle.text.specs.Text.{titleLine, sizes, costs, outLine, outLines};
+ghost use Rattle.text.specs.Inner.{Room, Wrote, wordsText};
 
 pub(crate) fn put_title(out: &mut [u8], at: usize, d: u32, n: u32) -> usize
     requires { ⌜ Room (titleLine d n) (now out) at ⌝ }
@@ -68,11 +70,11 @@ pub(crate) fn put_net(
     requires { ⌜ Room (wordsText (now words) depth multiplications) (now out) at ⌝ }
     ensures { λ r. ⌜ Wrote (wordsText (now (words .entry)) depth multiplications) (now (out .entry)) at (now (out .exit)) r ⌝ }
 {
-    let inputs = answer::word_at(words, 0);
-    let gates = answer::word_at(words, 1);
-    let outputs = answer::word_at(words, 2);
-    let i = put_sizes(out, at, inputs, gates, outputs);
+    let counts = netlist::counts::counts_of(words);
+    let inputs = counts.inputs;
+    let gates = counts.gates;
+    let i = put_sizes(out, at, inputs, gates, counts.outputs);
     let j = put_costs(out, i, depth, multiplications);
     let k = put_gates(out, j, words, inputs, gates);
-    put_outputs(out, k, words, 3 + 4 * gates as usize)
+    put_outputs(out, k, words, HEADER_WORDS + GATE_STRIDE * (gates as usize))
 }

@@ -4,7 +4,7 @@ ghost use Prim.Native.Nat.{_+_, _≤_};
 ghost use mathlib.Core.List.{[], _∷_};
 ghost use Rattle.line.specs.Decimal.{decimal};
 ghost use Rattle.text.specs.Text.{named, pair, triple};
-ghost use Rattle.text.specs.Puts.{Room, Wrote};
+ghost use Rattle.text.specs.Inner.{Room, Wrote};
 
 pub(crate) fn put_bytes(out: &mut [u8], at: usize, bytes: &[u8]) -> usize
     requires { ⌜ Room (now bytes) (now out) at ⌝ }

@@ -13,7 +13,7 @@ ghost use Rattle.netlist.specs.Words.{words};
 ghost use Rattle.cells.specs.Cells.{thresholdNet};
 ghost use Rattle.emit.specs.Emit.{noThreshold};
 ghost use Rattle.text.specs.Text.{thresholdText};
-ghost use Rattle.text.specs.Puts.{Wrote};
+ghost use Rattle.text.specs.Inner.{Wrote};
 
 fn threshold_depth(d: u32, n: u32) -> u32
     requires { ⌜ noThreshold d n ≡ false ⌝ }
@@ -53,8 +53,7 @@ fn put_emitted(out: &mut [u8], d: u32, n: u32, net: &[u32]) -> usize
     put_net(out, i, net, depth, multiplications)
 }
 
-// The text for a line "d n". The netlist's words go into a list that is lent: three of the header, four a
-// gate, and the one output.
+// The text for a line "d n". The netlist's words go into a list that is lent, at its front.
 pub(crate) fn put_threshold(out: &mut [u8], d: u32, n: u32, space: &mut [u32]) -> usize
     requires { ⌜ 131072 ≤ length (now out) ⌝ }
     requires { ⌜ 17160 ≤ length (now space) ⌝ }
@@ -64,6 +63,7 @@ pub(crate) fn put_threshold(out: &mut [u8], d: u32, n: u32, space: &mut [u32]) -
     let Answer::Done = r else {
         return put_bytes(out, 0, b"refused 13\n");
     };
-    let gates = answer::word_at(space, 1) as usize;
-    put_emitted(out, d, n, &space[..4 + 4 * gates])
+    let counts = netlist::counts::counts_of(space);
+    let size = netlist::counts::word_count(counts);
+    put_emitted(out, d, n, &space[..size])
 }

@@ -24,7 +24,9 @@ returns-2 c = ended-other _ _ _ _ _ _ (c .before .before .before .second .given 
 
 add-if2 : tie.Need-add-if2
 add-if2 c =
-    let h : c .before .before .before .second .given .0 .1 .0 < length (now (c .before .before .before .before .before .before .args .input)) = inside (now (c .before .before .before .before .before .before .args .input)) (c .before .before .before .second .given .0 .1 .0) _ (c .before .byte-at .ensures) (omega arith) in
+    let at-second = c .before .before .before in
+    let start = at-second .before .before .before in
+    let h : at-second .second .given .0 .1 .0 < length (now (start .args .input)) = inside (now (start .args .input)) (at-second .second .given .0 .1 .0) _ (c .before .byte-at .ensures) (omega arith) in
     omega arith
 
 returns-3 : tie.Need-returns-3

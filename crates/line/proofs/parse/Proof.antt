@@ -32,7 +32,12 @@ ended-requires : tie.Need-ended-requires
 ended-requires c κs = search needs
 
 returns-3 : tie.Need-returns-3
-returns-3 c = asked-rest _ _ _ _ _ (c .before .before .before .before .before .before .before .read-number .ensures) (c .before .before .before .before .before .first .given .1) (c .before .before .before .byte-at .ensures) _ _ (c .before .before .if1 .left) (c .before .read-number2 .ensures) (c .ended .ensures)
+returns-3 c =
+    let in-else = c .before .before in
+    let at-byte-at = in-else .before in
+    let at-first = at-byte-at .before .before in
+    let at-read-number = at-first .before .before in
+    asked-rest _ _ _ _ _ (at-read-number .read-number .ensures) (at-first .first .given .1) (at-byte-at .byte-at .ensures) _ _ (in-else .if1 .left) (c .before .read-number2 .ensures) (c .ended .ensures)
 
 pub parse-spec : {M : Type 1} → statement M
 parse-spec =

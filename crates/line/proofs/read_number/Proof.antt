@@ -36,7 +36,14 @@ add-t11 : tie.Need-add-t11
 add-t11 c = search needs
 
 returns-3 : tie.Need-returns-3
-returns-3 c = number-one _ _ _ (c .before .before .before .before .before .before .before .byte-at .ensures) _ _ (sym (c .before .before .before .before .before .before .is-digit .ensures) ∙ not-false _ (c .before .before .before .before .before .if1 .left)) (c .before .before .before .before .if2 .left) (c .before .before .before .byte-at2 .ensures) (sym (c .before .before .is-digit2 .ensures) ∙ not-true _ (c .before .if3 .taken)) (c .digit .ensures)
+returns-3 c =
+    let at-is-digit2 = c .before .before in
+    let at-byte-at2 = at-is-digit2 .before in
+    let in-else2 = at-byte-at2 .before in
+    let in-else = in-else2 .before in
+    let at-is-digit = in-else .before in
+    let at-byte-at = at-is-digit .before in
+    number-one _ _ _ (at-byte-at .byte-at .ensures) _ _ (sym (at-is-digit .is-digit .ensures) ∙ not-false _ (in-else .if1 .left)) (in-else2 .if2 .left) (at-byte-at2 .byte-at2 .ensures) (sym (at-is-digit2 .is-digit2 .ensures) ∙ not-true _ (c .before .if3 .taken)) (c .digit .ensures)
 
 add-byte-at-2 : tie.Need-add-byte-at-2
 add-byte-at-2 c = search needs
@@ -63,7 +70,18 @@ add-t16 : tie.Need-add-t16
 add-t16 c = search needs
 
 returns-4 : tie.Need-returns-4
-returns-4 c = number-two _ _ _ (c .before .before .before .before .before .before .before .before .before .before .before .byte-at .ensures) _ _ _ _ (sym (c .before .before .before .before .before .before .before .before .before .before .is-digit .ensures) ∙ not-false _ (c .before .before .before .before .before .before .before .before .before .if1 .left)) (c .before .before .before .before .before .before .before .before .if2 .left) (c .before .before .before .before .before .before .before .byte-at2 .ensures) (sym (c .before .before .before .before .before .before .is-digit2 .ensures) ∙ not-false _ (c .before .before .before .before .before .if3 .left)) (c .before .before .before .before .byte-at3 .ensures) (sym (c .before .before .before .is-digit3 .ensures) ∙ not-true _ (c .before .before .if4 .taken)) (c .before .digit2 .ensures) (c .digit3 .ensures)
+returns-4 c =
+    let in-then4 = c .before .before in
+    let at-is-digit3 = in-then4 .before in
+    let at-byte-at3 = at-is-digit3 .before in
+    let in-else3 = at-byte-at3 .before in
+    let at-is-digit2 = in-else3 .before in
+    let at-byte-at2 = at-is-digit2 .before in
+    let in-else2 = at-byte-at2 .before in
+    let in-else = in-else2 .before in
+    let at-is-digit = in-else .before in
+    let at-byte-at = at-is-digit .before in
+    number-two _ _ _ (at-byte-at .byte-at .ensures) _ _ _ _ (sym (at-is-digit .is-digit .ensures) ∙ not-false _ (in-else .if1 .left)) (in-else2 .if2 .left) (at-byte-at2 .byte-at2 .ensures) (sym (at-is-digit2 .is-digit2 .ensures) ∙ not-false _ (in-else3 .if3 .left)) (at-byte-at3 .byte-at3 .ensures) (sym (at-is-digit3 .is-digit3 .ensures) ∙ not-true _ (in-then4 .if4 .taken)) (c .before .digit2 .ensures) (c .digit3 .ensures)
 
 digit-requires-4 : tie.Need-digit-requires-4
 digit-requires-4 c κs = search needs
@@ -90,7 +108,19 @@ add-t9 : tie.Need-add-t9
 add-t9 c = search needs
 
 returns-5 : tie.Need-returns-5
-returns-5 c = number-three _ _ _ (c .before .before .before .before .before .before .before .before .before .before .before .before .byte-at .ensures) _ _ _ _ _ (sym (c .before .before .before .before .before .before .before .before .before .before .before .is-digit .ensures) ∙ not-false _ (c .before .before .before .before .before .before .before .before .before .before .if1 .left)) (c .before .before .before .before .before .before .before .before .before .if2 .left) (c .before .before .before .before .before .before .before .before .byte-at2 .ensures) (sym (c .before .before .before .before .before .before .before .is-digit2 .ensures) ∙ not-false _ (c .before .before .before .before .before .before .if3 .left)) (c .before .before .before .before .before .byte-at3 .ensures) (sym (c .before .before .before .before .is-digit3 .ensures) ∙ not-false _ (c .before .before .before .if4 .left)) (c .before .before .digit4 .ensures) (c .before .digit5 .ensures) (c .digit6 .ensures)
+returns-5 c =
+    let at-digit4 = c .before .before in
+    let in-else4 = at-digit4 .before in
+    let at-is-digit3 = in-else4 .before in
+    let at-byte-at3 = at-is-digit3 .before in
+    let in-else3 = at-byte-at3 .before in
+    let at-is-digit2 = in-else3 .before in
+    let at-byte-at2 = at-is-digit2 .before in
+    let in-else2 = at-byte-at2 .before in
+    let in-else = in-else2 .before in
+    let at-is-digit = in-else .before in
+    let at-byte-at = at-is-digit .before in
+    number-three _ _ _ (at-byte-at .byte-at .ensures) _ _ _ _ _ (sym (at-is-digit .is-digit .ensures) ∙ not-false _ (in-else .if1 .left)) (in-else2 .if2 .left) (at-byte-at2 .byte-at2 .ensures) (sym (at-is-digit2 .is-digit2 .ensures) ∙ not-false _ (in-else3 .if3 .left)) (at-byte-at3 .byte-at3 .ensures) (sym (at-is-digit3 .is-digit3 .ensures) ∙ not-false _ (in-else4 .if4 .left)) (at-digit4 .digit4 .ensures) (c .before .digit5 .ensures) (c .digit6 .ensures)
 
 pub read-number-spec : {M : Type 1} → statement M
 read-number-spec =

@@ -20,7 +20,10 @@ returns : tie.Need-returns
 returns c = keep-none _ _ _ _ (c .before .before .before .before .before .pre) (c .before .before .room .ensures) (c .enum-told2 .given .1)
 
 slice-aggregate-put-bytes : tie.Need-slice-aggregate-put-bytes
-slice-aggregate-put-bytes c = sym (length-take-le _ _ (c .before .before .before .before .before .before .before .pre))
+slice-aggregate-put-bytes c =
+    let at-room = c .before .before .before .before in
+    let start = at-room .before .before .before in
+    sym (length-take-le _ _ (start .pre))
 
 put-bytes-requires : tie.Need-put-bytes-requires
 put-bytes-requires c κs =

@@ -23,7 +23,11 @@ same-length : tie.Need-same-length
 same-length c = search needs
 
 returns : tie.Need-returns
-returns c = moved-wrote (printed-nothing _ _ (c .before .before .before .before .before .before .before .parse .ensures) (c .before .before .before .before .before .enum-told .given .1)) (c .before .before .put-bytes .ensures)
+returns c =
+    let at-put-bytes = c .before .before in
+    let at-enum-told = at-put-bytes .before .before .before in
+    let at-parse = at-enum-told .before .before in
+    moved-wrote (printed-nothing _ _ (at-parse .parse .ensures) (at-enum-told .enum-told .given .1)) (at-put-bytes .put-bytes .ensures)
 
 slice-aggregate-put-threshold : tie.Need-slice-aggregate-put-threshold
 slice-aggregate-put-threshold c = search needs
@@ -35,7 +39,11 @@ same-length-2 : tie.Need-same-length-2
 same-length-2 c = search needs
 
 returns-2 : tie.Need-returns-2
-returns-2 c = moved-wrote (printed-line _ _ _ _ (c .before .before .before .before .before .before .before .before .before .parse .ensures) (c .before .before .before .before .before .before .before .asked .given .1)) (c .before .before .before .put-threshold .ensures)
+returns-2 c =
+    let at-put-threshold = c .before .before .before in
+    let at-asked = at-put-threshold .before .before .before .before in
+    let at-parse = at-asked .before .before in
+    moved-wrote (printed-line _ _ _ _ (at-parse .parse .ensures) (at-asked .asked .given .1)) (at-put-threshold .put-threshold .ensures)
 
 pub write-spec : {M : Type 1} → statement M
 write-spec =

@@ -22,8 +22,13 @@ unfolding gateOf
 unknown-gate k a b c e f = rw (sym e ∙ f)
 
 -- the gate of the four words that were read is that of the list
-read-gate : (c : tie.After-take-apart) {g : Gate} → g ≡ gateOf (c .before .before .before .before .word-at .result) (c .before .before .before .word-at2 .result) (c .before .before .word-at3 .result) (c .before .word-at4 .result) → g ≡ gateAt (now (c .before .before .before .before .before .before .args .words)) (c .before .before .before .before .before .before .args .place)
-read-gate c e = decoded-gate (now (c .before .before .before .before .before .before .args .words)) (c .before .before .before .before .before .before .args .place) _ _ _ _ _ (c .before .before .before .before .word-at .ensures) (c .before .before .before .word-at2 .ensures) (c .before .before .word-at3 .ensures) (c .before .word-at4 .ensures) e
+read-gate : (c : tie.After-take-apart) {g : Gate} → let at-word-at3 = c .before .before in let at-word-at2 = at-word-at3 .before in let at-word-at = at-word-at2 .before in let start = at-word-at .before .before in g ≡ gateOf (at-word-at .word-at .result) (at-word-at2 .word-at2 .result) (at-word-at3 .word-at3 .result) (c .before .word-at4 .result) → g ≡ gateAt (now (start .args .words)) (start .args .place)
+read-gate c e =
+    let at-word-at3 = c .before .before in
+    let at-word-at2 = at-word-at3 .before in
+    let at-word-at = at-word-at2 .before in
+    let start = at-word-at .before .before in
+    decoded-gate (now (start .args .words)) (start .args .place) _ _ _ _ _ (at-word-at .word-at .ensures) (at-word-at2 .word-at2 .ensures) (at-word-at3 .word-at3 .ensures) (c .before .word-at4 .ensures) e
 
 word-at-requires : tie.Need-word-at-requires
 word-at-requires c κs = search needs

@@ -16,21 +16,32 @@ slice-aggregate-put-named-2 c = search needs
 
 put-named-requires-2 : tie.Need-put-named-requires-2
 unfolding costs
-put-named-requires-2 c κs = next-room (c .before .before .before .before .put-named .ensures) (first-room _ (c .before .before .before .before .before .before .before .before .pre))
+put-named-requires-2 c κs =
+    let at-put-named = c .before .before .before .before in
+    let start = at-put-named .before .before .before .before in
+    next-room (at-put-named .put-named .ensures) (first-room _ (start .pre))
 
 slice-aggregate-put-bytes : tie.Need-slice-aggregate-put-bytes
 slice-aggregate-put-bytes c = search needs
 
 put-bytes-requires : tie.Need-put-bytes-requires
 unfolding costs
-put-bytes-requires c κs = next-room (wrote-then (c .before .before .before .before .before .before .before .before .before .put-named .ensures) (c .before .before .before .before .put-named2 .ensures)) (c .before .before .before .before .before .before .before .before .before .before .before .before .before .pre)
+put-bytes-requires c κs =
+    let at-put-named2 = c .before .before .before .before in
+    let at-put-named = at-put-named2 .before .before .before .before .before in
+    let start = at-put-named .before .before .before .before in
+    next-room (wrote-then (at-put-named .put-named .ensures) (at-put-named2 .put-named2 .ensures)) (start .pre)
 
 same-length : tie.Need-same-length
 same-length c = search needs
 
 returns : tie.Need-returns
 unfolding costs
-returns c = wrote-then (wrote-then (c .before .before .before .before .before .before .before .before .before .before .before .before .put-named .ensures) (c .before .before .before .before .before .before .before .put-named2 .ensures)) (c .before .before .put-bytes .ensures)
+returns c =
+    let at-put-bytes = c .before .before in
+    let at-put-named2 = at-put-bytes .before .before .before .before .before in
+    let at-put-named = at-put-named2 .before .before .before .before .before in
+    wrote-then (wrote-then (at-put-named .put-named .ensures) (at-put-named2 .put-named2 .ensures)) (at-put-bytes .put-bytes .ensures)
 
 pub put-costs-spec : {M : Type 1} → statement M
 put-costs-spec =

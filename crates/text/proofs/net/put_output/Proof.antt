@@ -16,14 +16,20 @@ slice-aggregate-put-bytes c = search needs
 
 put-bytes-requires : tie.Need-put-bytes-requires
 unfolding outLine
-put-bytes-requires c κs = next-room (c .before .before .before .before .put-named .ensures) (c .before .before .before .before .before .before .before .before .pre)
+put-bytes-requires c κs =
+    let at-put-named = c .before .before .before .before in
+    let start = at-put-named .before .before .before .before in
+    next-room (at-put-named .put-named .ensures) (start .pre)
 
 same-length : tie.Need-same-length
 same-length c = search needs
 
 returns : tie.Need-returns
 unfolding outLine
-returns c = wrote-then (c .before .before .before .before .before .before .before .put-named .ensures) (c .before .before .put-bytes .ensures)
+returns c =
+    let at-put-bytes = c .before .before in
+    let at-put-named = at-put-bytes .before .before .before .before .before in
+    wrote-then (at-put-named .put-named .ensures) (at-put-bytes .put-bytes .ensures)
 
 pub put-output-spec : {M : Type 1} → statement M
 put-output-spec =

@@ -2,9 +2,8 @@ use Prim.Native.Nat.{_-_}
 use borrow.Author.Needs.{needs}
 use lib.ListN.{length, drop}
 use Rattle.text.specs.Text.{outLines}
-use Rattle.text.specs.Puts.{Left}
+use Rattle.text.proofs.Parts.{Left, left-start, left-step, left-room, left-end}
 use Rattle.text.proofs.Netlists.{outs-turn, outs-none}
-use Rattle.text.proofs.Parts.{left-start, left-step, left-room, left-end}
 use Rattle.text.proofs.net.put_outputs.Statement.{statement}
 use Rattle.text.proofs.net.put_outputs.Tie as tie
 
@@ -24,7 +23,11 @@ shared-slice-read-put-output : tie.Need-shared-slice-read-put-output Inv-loop μ
 shared-slice-read-put-output c = search needs
 
 put-output-requires : tie.Need-put-output-requires Inv-loop μ-loop
-put-output-requires c κs = left-room _ _ _ (c .before .before .before .loop .inv) (outs-turn _ _ (c .before .before .loop-test .taken)) (c .before .before .before .before .before .before .pre)
+put-output-requires c κs =
+    let in-loop = c .before .before in
+    let at-loop = in-loop .before in
+    let start = at-loop .before .before .before in
+    left-room _ _ _ (at-loop .loop .inv) (outs-turn _ _ (in-loop .loop-test .taken)) (start .pre)
 
 add-i : tie.Need-add-i Inv-loop μ-loop
 add-i c = search needs
@@ -33,7 +36,11 @@ loop-less : tie.Need-loop-less Inv-loop μ-loop
 loop-less c = search needs
 
 loop-again : tie.Need-loop-again Inv-loop μ-loop
-loop-again c = left-step _ _ _ (c .before .before .before .before .before .before .loop .inv) (outs-turn _ _ (c .before .before .before .before .before .loop-test .taken)) (c .before .before .put-output .ensures)
+loop-again c =
+    let at-put-output = c .before .before in
+    let in-loop = at-put-output .before .before .before in
+    let at-loop = in-loop .before in
+    left-step _ _ _ (at-loop .loop .inv) (outs-turn _ _ (in-loop .loop-test .taken)) (at-put-output .put-output .ensures)
 
 same-length : tie.Need-same-length Inv-loop μ-loop
 same-length c = c .before .loop .inv .size

@@ -1,6 +1,6 @@
 use native.Mathlib.Omega.{arith}
 use mathlib.Core.Path.{sym, subst, _∙_}
-use Rattle.text.specs.Puts.{Room, Wrote}
+use Rattle.text.specs.Inner.{Room, Wrote}
 use mathlib.Core.List.{List}
 use Rattle.line.proofs.Decimals.{decimal-low, decimal-high}
 use Rattle.text.proofs.Parts.{first-room, next-room, wrote-then, wrote-size}

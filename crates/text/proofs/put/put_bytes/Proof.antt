@@ -2,8 +2,7 @@ use Prim.Native.Nat.{_+_, _-_, _≤_}
 use mathlib.Core.Path.{_≡_}
 use native.Mathlib.Omega.{arith}
 use lib.ListN.{length, drop, drop-of-length-le}
-use Rattle.text.specs.Puts.{Left}
-use Rattle.text.proofs.Parts.{left-start, left-step, left-end, rest-of, wrote-byte}
+use Rattle.text.proofs.Parts.{Left, left-start, left-step, left-end, rest-of, wrote-byte}
 use Rattle.text.proofs.put.put_bytes.Statement.{statement}
 use Rattle.text.proofs.put.put_bytes.Tie as tie
 

@@ -13,14 +13,20 @@ slice-aggregate-put-named c = search needs
 
 put-named-requires-2 : tie.Need-put-named-requires-2
 unfolding pair
-put-named-requires-2 c κs = next-room (c .before .before .before .before .put-named .ensures) (c .before .before .before .before .before .before .before .before .pre)
+put-named-requires-2 c κs =
+    let at-put-named = c .before .before .before .before in
+    let start = at-put-named .before .before .before .before in
+    next-room (at-put-named .put-named .ensures) (start .pre)
 
 same-length : tie.Need-same-length
 same-length c = search needs
 
 returns : tie.Need-returns
 unfolding pair
-returns c = wrote-then (c .before .before .before .before .before .before .before .put-named .ensures) (c .before .before .put-named2 .ensures)
+returns c =
+    let at-put-named2 = c .before .before in
+    let at-put-named = at-put-named2 .before .before .before .before .before in
+    wrote-then (at-put-named .put-named .ensures) (at-put-named2 .put-named2 .ensures)
 
 pub put-pair-spec : {M : Type 1} → statement M
 put-pair-spec =

@@ -13,14 +13,20 @@ slice-aggregate-put-named c = search needs
 
 put-named-requires : tie.Need-put-named-requires
 unfolding triple
-put-named-requires c κs = next-room (c .before .before .before .before .put-pair .ensures) (c .before .before .before .before .before .before .before .before .pre)
+put-named-requires c κs =
+    let at-put-pair = c .before .before .before .before in
+    let start = at-put-pair .before .before .before .before in
+    next-room (at-put-pair .put-pair .ensures) (start .pre)
 
 same-length : tie.Need-same-length
 same-length c = search needs
 
 returns : tie.Need-returns
 unfolding triple
-returns c = wrote-then (c .before .before .before .before .before .before .before .put-pair .ensures) (c .before .before .put-named .ensures)
+returns c =
+    let at-put-named = c .before .before in
+    let at-put-pair = at-put-named .before .before .before .before .before in
+    wrote-then (at-put-pair .put-pair .ensures) (at-put-named .put-named .ensures)
 
 pub put-triple-spec : {M : Type 1} → statement M
 put-triple-spec =

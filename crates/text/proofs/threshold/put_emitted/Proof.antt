@@ -14,13 +14,23 @@ threshold-multiplications-requires : tie.Need-threshold-multiplications-requires
 threshold-multiplications-requires c κs = search needs
 
 put-net-requires : tie.Need-put-net-requires
-put-net-requires c κs = (emitted-few _ _ _ (c .before .before .before .before .before .before .before .before .before .pre .0) (c .before .before .before .before .before .before .before .before .before .pre .1 .0), moved-room (emitted-text _ _ _ _ _ (c .before .before .before .before .before .before .before .before .before .pre .1 .0) (c .before .before .threshold-depth .ensures) (c .before .threshold-multiplications .ensures)) (next-room (c .before .before .before .before .before .put-title .ensures) (netlist-room _ _ _ (c .before .before .before .before .before .before .before .before .before .pre .0) (c .before .before .before .before .before .before .before .before .before .pre .1 .1))))
+put-net-requires c κs =
+    let at-threshold-depth = c .before .before in
+    let at-put-title = at-threshold-depth .before .before .before in
+    let start = at-put-title .before .before .before .before in
+    (emitted-few _ _ _ (start .pre .0) (start .pre .1 .0), moved-room (emitted-text _ _ _ _ _ (start .pre .1 .0) (at-threshold-depth .threshold-depth .ensures) (c .before .threshold-multiplications .ensures)) (next-room (at-put-title .put-title .ensures) (netlist-room _ _ _ (start .pre .0) (start .pre .1 .1))))
 
 same-length : tie.Need-same-length
 same-length c = search needs
 
 returns : tie.Need-returns
-returns c = moved-wrote (netlist-text _ _ (c .before .before .before .before .before .before .before .before .before .before .before .before .pre .0)) (wrote-then (c .before .before .before .before .before .before .before .before .put-title .ensures) (moved-wrote (emitted-text _ _ _ _ _ (c .before .before .before .before .before .before .before .before .before .before .before .before .pre .1 .0) (c .before .before .before .before .before .threshold-depth .ensures) (c .before .before .before .before .threshold-multiplications .ensures)) (c .before .before .put-net .ensures)))
+returns c =
+    let at-put-net = c .before .before in
+    let at-threshold-multiplications = at-put-net .before .before in
+    let at-threshold-depth = at-threshold-multiplications .before in
+    let at-put-title = at-threshold-depth .before .before .before in
+    let start = at-put-title .before .before .before .before in
+    moved-wrote (netlist-text _ _ (start .pre .0)) (wrote-then (at-put-title .put-title .ensures) (moved-wrote (emitted-text _ _ _ _ _ (start .pre .1 .0) (at-threshold-depth .threshold-depth .ensures) (at-threshold-multiplications .threshold-multiplications .ensures)) (at-put-net .put-net .ensures)))
 
 pub put-emitted-spec : {M : Type 1} → statement M
 put-emitted-spec =

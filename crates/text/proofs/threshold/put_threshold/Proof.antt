@@ -2,10 +2,14 @@ use native.Mathlib.Omega.{arith}
 use mathlib.Core.Path.{sym}
 use lib.Seq.{length-take-le}
 use Rattle.text.proofs.Parts.{moved-wrote}
-use Rattle.text.proofs.Cases.{refused-text, done-netlist, done-words, done-room}
+use Rattle.text.proofs.Cases.{refused-text, done-netlist, done-words, done-within}
 use borrow.Author.Needs.{needs}
 use Rattle.text.proofs.threshold.put_threshold.Statement.{statement}
 use Rattle.text.proofs.threshold.put_threshold.Tie as tie
+
+-- where the netlist is emitted
+abbrev emitted : tie.After-enum-told → tie.After-emit-threshold
+emitted c = c .before .before .before .before
 
 emit-threshold-requires : tie.Need-emit-threshold-requires
 emit-threshold-requires c κs = search needs
@@ -29,29 +33,36 @@ same-length-2 : tie.Need-same-length-2
 same-length-2 c = search needs
 
 returns : tie.Need-returns
-returns c = moved-wrote (refused-text _ _ _ _ (c .before .before .before .before .before .before .before .before .before .before .before .before .before .pre .1) (c .before .before .before .before .before .before .before .before .before .emit-threshold .ensures .answered) (c .before .before .before .before .before .enum-told2 .given .1)) (c .before .before .put-bytes .ensures)
+returns c =
+    let told = c .before .before .before .before .before in
+    let emitted = told .before .before .before .before in
+    moved-wrote (refused-text _ _ _ _ (emitted .before .before .before .before .pre .1) (emitted .emit-threshold .ensures .answered) (told .enum-told2 .given .1)) (c .before .before .put-bytes .ensures)
 
-word-at-requires : tie.Need-word-at-requires
-word-at-requires c κs = search needs
+counts-of-requires : tie.Need-counts-of-requires
+counts-of-requires c κs = search needs
 
-cast-gates : tie.Need-cast-gates
-cast-gates c = search needs
-
-mul-put-emitted : tie.Need-mul-put-emitted
-mul-put-emitted c = search needs
-
-add-put-emitted : tie.Need-add-put-emitted
-add-put-emitted c = search needs
+word-count-requires : tie.Need-word-count-requires
+word-count-requires c κs = search needs
 
 slice-reshare-prefix-put-emitted : tie.Need-slice-reshare-prefix-put-emitted
-slice-reshare-prefix-put-emitted c = done-room _ _ _ _ _ (c .before .before .before .before .before .before .before .emit-threshold .ensures) (c .before .before .before .enum-told .given .1) _ (c .before .word-at .ensures)
+slice-reshare-prefix-put-emitted c =
+    let size = c .before in
+    let told = size .before .before .before in
+    done-within _ _ _ _ _ (emitted told .emit-threshold .ensures) (told .enum-told .given .1) _ _ (size .before .counts-of .ensures) (size .word-count .ensures)
 
 slice-aggregate-put-emitted : tie.Need-slice-aggregate-put-emitted
-slice-aggregate-put-emitted c = sym (length-take-le _ _ (done-room _ _ _ _ _ (c .before .before .before .before .before .before .before .before .emit-threshold .ensures) (c .before .before .before .before .enum-told .given .1) _ (c .before .before .word-at .ensures)))
+slice-aggregate-put-emitted c =
+    let size = c .before .before in
+    let told = size .before .before .before in
+    sym (length-take-le _ _ (done-within _ _ _ _ _ (emitted told .emit-threshold .ensures) (told .enum-told .given .1) _ _ (size .before .counts-of .ensures) (size .word-count .ensures)))
 
 put-emitted-requires : tie.Need-put-emitted-requires
 put-emitted-requires c κs =
-    (done-netlist _ _ _ _ _ (c .before .before .before .before .before .before .before .before .emit-threshold .ensures) (c .before .before .before .before .enum-told .given .1), (done-words _ _ _ _ _ (c .before .before .before .before .before .before .before .before .emit-threshold .ensures) (c .before .before .before .before .enum-told .given .1) _ (c .before .before .word-at .ensures), omega arith))
+    let size = c .before .before in
+    let told = size .before .before .before in
+    let e = emitted told .emit-threshold .ensures in
+    let d = told .enum-told .given .1 in
+    (done-netlist _ _ _ _ _ e d, (done-words _ _ _ _ _ e d _ _ (size .before .counts-of .ensures) (size .word-count .ensures), omega arith))
 
 same-length-3 : tie.Need-same-length-3
 same-length-3 c = search needs
@@ -74,10 +85,8 @@ put-threshold-spec =
     same-length
     same-length-2
     returns
-    word-at-requires
-    cast-gates
-    mul-put-emitted
-    add-put-emitted
+    counts-of-requires
+    word-count-requires
     slice-reshare-prefix-put-emitted
     slice-aggregate-put-emitted
     put-emitted-requires
