@@ -7,8 +7,8 @@
 #![forbid(unsafe_code)]
 
 use crate::filter;
-use crate::key::{key_bit, key_length, key_word};
-use crate::kreyvium::{self, first_bits, pack};
+use crate::key::{key_bit, key_length};
+use crate::kreyvium;
 use crate::netlist::{refusal, Answer};
 
 /// The most bits a record can have.
@@ -329,8 +329,9 @@ fn fill(instance: &Instance, lists: &Lists, result: &mut [u8]) {
             }
         }
         Cipher::Kreyvium => {
+            let key = key.try_into().expect("its length is judged");
             let iv = lists.whitening.try_into().expect("its length is judged");
-            let bits = first_bits(key_word(key), pack(iv));
+            let bits = kreyvium::first_bits(key, iv);
             result.copy_from_slice(&bits[..result.len()]);
         }
     }

@@ -14,18 +14,18 @@ pub fn several<Fault: Ord>(count: usize, mut draw: impl FnMut() -> Fault) -> Vec
 }
 
 /// Puts these faults into a sound case, in that order, and says all that then
-/// holds. Where one leaves nothing to judge the rest by, says also what would
-/// hold without it.
+/// holds. Where one hides the rest, which cannot be judged then, says also what
+/// would hold without it.
 pub fn inflict_each<Case, Fault: Copy>(
     case: &mut Case,
     faults: Vec<Fault>,
-    leaves_nothing: impl Fn(Fault) -> bool,
+    hides: impl Fn(Fault) -> bool,
     conditions: impl Fn(&Case) -> BTreeSet<Condition>,
     mut inflict: impl FnMut(&mut Case, Fault) -> Condition,
 ) -> BTreeSet<Condition> {
     let mut held = None;
     for fault in faults {
-        if leaves_nothing(fault) {
+        if hides(fault) {
             let so_far = held.get_or_insert_with(|| conditions(case));
             so_far.insert(inflict(case, fault));
         } else {

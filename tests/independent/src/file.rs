@@ -7,8 +7,8 @@
 #![forbid(unsafe_code)]
 
 use crate::netlist::{
-    gate_fault, gate_place, refusal, Answer, Counts, Gate, Netlist, GATES_PLACE, INPUTS_PLACE,
-    MAX_GATES, MAX_INPUTS, MAX_OUTPUTS, OUTPUTS_PLACE,
+    gate_fault, gate_place, refusal, words_for, Answer, Counts, Gate, Netlist, GATES_PLACE,
+    INPUTS_PLACE, MAX_GATES, MAX_INPUTS, MAX_OUTPUTS, OUTPUTS_PLACE,
 };
 
 pub const HEADER_MARK: [u8; 2] = *b"NH";
@@ -32,13 +32,15 @@ type OutputRecord = [u8; OUTPUT_BYTES];
 
 /// The header of a file, its counts within their limits.
 struct Header<'a> {
-    counts: Counts,
+    inputs: usize,
+    gates: usize,
+    outputs: usize,
     rest: &'a [u8],
 }
 
 /// A sound file, seen in its bytes.
 struct File<'a> {
-    counts: Counts,
+    inputs: usize,
     gates: &'a [GateRecord],
     outputs: &'a [OutputRecord],
 }
@@ -96,39 +98,43 @@ impl<'a> Header<'a> {
                 return Err(Answer::broken_netlist(1, place));
             }
         }
-        let counts = Counts {
+        Ok(Header {
             inputs,
             gates,
             outputs,
-        };
-        Ok(Header { counts, rest })
+            rest,
+        })
+    }
+
+    /// How many words the netlist has.
+    fn words(&self) -> usize {
+        words_for(self.gates, self.outputs)
     }
 
     /// The records after the header, which keep the netlist rules.
     fn file(self) -> Result<File<'a>, Answer> {
-        let Header { counts, rest } = self;
         let at = HEADER_BYTES;
-        let (gates, rest) = records(rest, at, counts.gates, GATE_MARK)?;
-        let at = at + GATE_BYTES * counts.gates;
-        let (outputs, rest) = records(rest, at, counts.outputs, OUTPUT_MARK)?;
-        let at = at + OUTPUT_BYTES * counts.outputs;
+        let (gates, rest) = records(self.rest, at, self.gates, GATE_MARK)?;
+        let at = at + GATE_BYTES * self.gates;
+        let (outputs, rest) = records(rest, at, self.outputs, OUTPUT_MARK)?;
+        let at = at + OUTPUT_BYTES * self.outputs;
         if !rest.is_empty() {
             return Err(Answer::broken_file(at));
         }
         for (g, record) in gates.iter().enumerate() {
-            if let Some(fault) = gate_fault(&gate(record), counts.inputs + g) {
+            if let Some(fault) = gate_fault(&gate(record), self.inputs + g) {
                 return Err(Answer::broken_netlist(1, gate_place(g) + fault));
             }
         }
-        let wires = counts.wires();
+        let wires = self.inputs + self.gates;
         let fault = outputs
             .iter()
             .position(|record| output(record) as usize >= wires);
         if let Some(o) = fault {
-            return Err(Answer::broken_netlist(1, gate_place(counts.gates) + o));
+            return Err(Answer::broken_netlist(1, gate_place(self.gates) + o));
         }
         Ok(File {
-            counts,
+            inputs: self.inputs,
             gates,
             outputs,
         })
@@ -153,11 +159,16 @@ fn try_read_file(source: &[u8], result: &mut [u32]) -> Result<(), Answer> {
     let header = Header::parse(source)?;
     let room = result.len();
     let result = result
-        .get_mut(..header.counts.words())
+        .get_mut(..header.words())
         .ok_or(Answer::too_short(2, room))?;
     let file = header.file()?;
 
-    let (gates, outputs) = file.counts.lay_out(result);
+    let counts = Counts {
+        inputs: file.inputs,
+        gates: file.gates.len(),
+        outputs: file.outputs.len(),
+    };
+    let (gates, outputs) = counts.lay_out(result);
     for (to, record) in gates.iter_mut().zip(file.gates) {
         *to = gate(record);
     }

@@ -7,7 +7,7 @@
 
 #![forbid(unsafe_code)]
 
-use crate::key::{key_length, key_word};
+use crate::key::{self, key_word};
 use crate::kreyvium::{self, first_word, pack, pack_half, unpack};
 use crate::netlist::{refusal, Answer};
 
@@ -18,9 +18,6 @@ pub const FRAME: usize = 26;
 
 /// The bits of a record.
 pub const RECORD: usize = 64;
-
-/// How long the list of a key is.
-const KEY: usize = key_length(kreyvium::BITS);
 
 impl Answer {
     /// A frame is cut, or its mark is wrong.
@@ -118,7 +115,7 @@ fn try_append(
     judge_length: impl FnOnce(usize) -> Result<(), Answer>,
     frame: &mut [u8],
 ) -> Result<(), Answer> {
-    let key = exactly::<KEY>(1, key)?;
+    let key = exactly::<{ key::KREYVIUM }>(1, key)?;
     let record = exactly::<RECORD>(2, record)?;
     let iv_bits = exactly::<{ kreyvium::BITS }>(3, iv_bits)?;
     judge_length(file.len())?;
@@ -150,7 +147,7 @@ pub fn read(key: &[u8], file: &[u8], records: &mut [u8]) -> Answer {
 }
 
 fn try_read(key: &[u8], file: &[u8], records: &mut [u8]) -> Result<(), Answer> {
-    let key = exactly::<KEY>(1, key)?;
+    let key = exactly::<{ key::KREYVIUM }>(1, key)?;
     judge_bits(1, key)?;
     let frames = judge(file, 2)?;
     let room = records.len();

@@ -23,10 +23,13 @@ pub fn key_bits<const BITS: usize>(key: &[u8]) -> [u8; BITS] {
     array::from_fn(|i| key_bit(key, i))
 }
 
+/// How long the list of Kreyvium's key is.
+pub const KREYVIUM: usize = key_length(kreyvium::BITS);
+
 /// Kreyvium's key in a word, the first bit in the highest place.
-#[inline]
-pub fn key_word(key: &[u8]) -> u128 {
-    kreyvium::pack(key.try_into().expect("128 key bits"))
+#[inline(always)]
+pub fn key_word(key: &[u8; KREYVIUM]) -> u128 {
+    kreyvium::pack(key)
 }
 
 /// What a deciphering netlist takes: the bits of the key, then the record.

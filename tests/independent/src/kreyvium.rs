@@ -7,6 +7,8 @@
 
 #![forbid(unsafe_code)]
 
+use crate::key::{self, key_word};
+
 /// Bits of a key, and of an IV.
 pub const BITS: usize = 128;
 
@@ -117,13 +119,13 @@ pub fn unpack(word: u64) -> [u8; 64] {
     bits
 }
 
-/// The first 64 bits of keystream, of a key and an IV as in
-/// [`Rounds::packed`].
-pub fn first_bits(key: u128, iv: u128) -> [u8; 64] {
-    unpack(first_word(key, iv))
+/// The first 64 bits of keystream, of a key as it is lent.
+pub fn first_bits(key: &[u8; key::KREYVIUM], iv: &[u8; BITS]) -> [u8; 64] {
+    unpack(first_word(key_word(key), pack(iv)))
 }
 
-/// The same in a word, the first in the lowest place.
+/// The same in a word, the first in the lowest place, of a key and an IV as in
+/// [`Rounds::packed`].
 pub fn first_word(key: u128, iv: u128) -> u64 {
     let mut rounds = Rounds::packed(key, iv);
     for _ in 0..SILENT / 64 {

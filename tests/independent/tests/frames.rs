@@ -605,6 +605,9 @@ fn kind(&(stage, (number, list, _)): &(FrameStage, Condition)) -> Kind {
     (stage, number, list)
 }
 
+/// How often each has to be given where another one held too.
+const LEAST: usize = CASES / 2_000 + 1;
+
 /// How often each was given, and where each other one held too.
 #[derive(Default)]
 struct Given {
@@ -626,15 +629,15 @@ impl Given {
     }
 
     /// All of them were given, each where each of those after it held.
-    fn assert_order(&self, order: &[Kind], least: usize) {
+    fn assert_order(&self, order: &[Kind]) {
         assert!(self.done > CASES / 10, "only {} sound ones", self.done);
-        self.kinds.assert_each(order.iter().copied(), 4 * least);
+        self.kinds.assert_each(order.iter().copied(), 4 * LEAST);
         for (at, &earlier) in order.iter().enumerate() {
             for &later in &order[at + 1..] {
                 // Without a sound IV there is none to compare.
                 let compared = earlier.2 != 3 || later.0 != FrameStage::NewFrame;
                 if compared {
-                    self.kinds.assert_preferred(earlier, later, least);
+                    self.kinds.assert_preferred(earlier, later, LEAST);
                 }
             }
         }
@@ -722,11 +725,9 @@ fn random_appendings() {
         }
     }
     let order = [&LENGTHS[..3], &BITS, &in_file(4), &AT_THE_END].concat();
-    given.assert_order(&order, CASES / 2_000 + 1);
+    given.assert_order(&order);
     let [broken, fallen] = in_file(4);
-    given
-        .kinds
-        .assert_preferred(fallen, broken, CASES / 2_000 + 1);
+    given.kinds.assert_preferred(fallen, broken, LEAST);
 }
 
 #[test]
@@ -745,7 +746,7 @@ fn random_appendings_after() {
         }
     }
     let order = [&LENGTHS[..], &BITS, &in_file(4)[..1], &AT_THE_END].concat();
-    given.assert_order(&order, CASES / 2_000 + 1);
+    given.assert_order(&order);
 }
 
 #[test]
@@ -776,11 +777,9 @@ fn random_readings() {
     }
     let room = (FrameStage::Room, 8, 3);
     let order = [&LENGTHS[..1], &BITS[..1], &in_file(2), &[room]].concat();
-    given.assert_order(&order, CASES / 2_000 + 1);
+    given.assert_order(&order);
     let [broken, fallen] = in_file(2);
-    given
-        .kinds
-        .assert_preferred(fallen, broken, CASES / 2_000 + 1);
+    given.kinds.assert_preferred(fallen, broken, LEAST);
 }
 
 /// What is appended to a sound file can be read: the old records and the new.

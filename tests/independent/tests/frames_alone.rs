@@ -1,12 +1,13 @@
 //! Holds the Rust program for the file of port records to a worked frame, to
 //! values found by hand and to the definitions. The library is not called.
 
+use independent::definitions::cipher::keystream;
 use independent::definitions::frames::{bytes_of, check_conditions, frame, port_bits, port_fields};
 use independent::definitions::least;
 use independent::frame_cases::{self, iv_bits, Appending, FileFault, Reading, FILE_FAULTS, LISTS};
 use independent::frames::{self, append, append_after, check, read, Put, FRAME, RECORD};
 use independent::key::lent_key;
-use independent::kreyvium::{self, first_bits, first_word, pack, pack_half, unpack, Rounds};
+use independent::kreyvium::{self, first_word, pack, pack_half, unpack, Rounds};
 use independent::netlist::{refusal, Answer};
 use independent::random::{bits, fill, seeded, Random};
 use independent::tally::Tally;
@@ -30,7 +31,8 @@ fn words_of_bits() {
         assert_eq!(u128::from(pack_half(&half)), pack(&iv) >> 64);
         assert_eq!(unpack(pack_half(&half).reverse_bits()), half);
         let word = first_word(pack(&key), pack(&iv));
-        assert_eq!(unpack(word), first_bits(pack(&key), pack(&iv)));
+        let stream = keystream(6, 64, &lent_key(&key), &[], &iv);
+        assert_eq!(unpack(word)[..], stream);
         let mut rounds = Rounds::packed(pack(&key), pack(&iv));
         let mut others = Rounds::new(&key, &iv);
         for _ in 0..=kreyvium::SILENT / 64 {
