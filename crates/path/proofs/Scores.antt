@@ -18,7 +18,7 @@ use Rattle.instance.specs.Keys.{Keyed, keyIn}
 use Rattle.instance.proofs.Keys.{key-size, key-bit}
 use Rattle.filter.specs.Filter.{tab}
 use Rattle.filter.proofs.Tab.{tab-length, tab-at}
-use Rattle.wiring.specs.Rows.{Rows, Inputs, decipherBit}
+use Rattle.wiring.specs.Rows.{Inputs, decipherBit}
 use Rattle.wiring.proofs.Claims.{rows-right}
 use Rattle.rounds.proofs.Values.{kreyvium-right}
 use Rattle.cipher.specs.Rows.{streamBit}
@@ -28,8 +28,8 @@ use Rattle.cipher.proofs.Written.{keystream-length}
 use Rattle.glue.specs.Glue.{gluedWords, Fit}
 use Rattle.glue.proofs.Gluing.{glued-evaluates}
 use Rattle.emit.specs.Emit.{decipherNet}
-use Rattle.emit.proofs.Accepted.{net-kreyvium, net-rows, by-six, iv-lent}
-use Rattle.emit.proofs.Emission.{rows, five, emitted-inputs}
+use Rattle.emit.proofs.Accepted.{net-kreyvium, net-rows, by-six, iv-lent, wiring-of}
+use Rattle.emit.proofs.Emission.{emitted-inputs}
 
 -- the bits of a key and a record are the inputs of the deciphering netlist
 pub inputs-of : (inst m : ℕ) (key rec : List ℕ) → Keyed inst key → Bits m rec → Inputs inst m (keyIn inst key) rec
@@ -61,7 +61,7 @@ module _ (inst m : ℕ) (idx wh : List ℕ) (l : Wired inst m idx wh) where
       ∙ ap (added rec) (stream-of inst m key idx wh e))
       (λ n.
       ap (λ (n : Net). eval n (key ++ rec)) (net-rows inst m idx wh n)
-      ∙ rows-right inst m idx wh (l .least) (five inst m idx wh l n) (rows inst m idx wh l n) key rec g
+      ∙ rows-right inst m idx wh (l .least) (wiring-of inst m idx wh l n .high) (wiring-of inst m idx wh l n .rows) key rec g
       ∙ sym (added-tab (streamBit inst key idx wh) rec m (g .recLength))
       ∙ ap (added rec) (rows-of inst m key idx wh n))
 

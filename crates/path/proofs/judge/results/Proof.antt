@@ -1,5 +1,6 @@
 use mathlib.Core.Path.{ap}
 use native.Mathlib.Omega.{arith}
+use Rattle.netlist.specs.declared.counts.Counts.{Counts}
 use Rattle.instance.specs.declared.Sizes.{Sizes}
 use Rattle.instance.proofs.Judged.{key-small}
 use Rattle.path.proofs.Judging.{results-are}
@@ -15,17 +16,14 @@ add-inputs c =
     let z = c .before in
     record { fits = omega (arith, key-small (z .before .before .args .instance), ap Sizes.key (z .sizes-of .ensures)) }
 
-word-at-requires : tie.Need-word-at-requires
-word-at-requires c κs = search needs
+counts-of-requires : tie.Need-counts-of-requires
+counts-of-requires c κs = search needs
 
 cast-both : tie.Need-cast-both
 cast-both c = search needs
 
 add-both : tie.Need-add-both
 add-both c = search needs
-
-word-at-requires-2 : tie.Need-word-at-requires-2
-word-at-requires-2 c κs = search needs
 
 cast-outputs : tie.Need-cast-outputs
 cast-outputs c = search needs
@@ -41,7 +39,7 @@ add-t19 c = search needs
 
 add-t20 : tie.Need-add-t20
 add-t20 c =
-    let z = c .before .before .before in
+    let z = c .before .before .before .before in
     record { fits = omega (arith, key-small (z .before .before .args .instance), ap Sizes.key (z .sizes-of .ensures)) }
 
 check-as-requires : tie.Need-check-as-requires
@@ -49,9 +47,6 @@ check-as-requires c κs = search needs
 
 room-requires : tie.Need-room-requires
 room-requires c κs = search needs
-
-word-at-requires-3 : tie.Need-word-at-requires-3
-word-at-requires-3 c κs = search needs
 
 fit-requires : tie.Need-fit-requires
 fit-requires c κs = search needs
@@ -64,11 +59,11 @@ first-requires-2 c κs = search needs
 
 returns : tie.Need-returns
 returns c =
-    let l = c .before .before in
-    let n = l .before .before .before in
-    let o = n .before in
-    let z = o .before .before .before in
-    λ a eg ew. results-are _ _ _ _ _ _ _ _ a _ _ (ap Sizes.key (z .sizes-of .ensures)) eg ew (o .before .word-at .ensures) (o .word-at2 .ensures) (l .before .word-at3 .ensures) (n .check-as .ensures) (l .before .before .room .ensures) (l .fit .ensures) (c .before .first .ensures) (c .first2 .ensures)
+    let f = c .before .before in
+    let n = f .before .before in
+    let k = n .before .before .before in
+    let e = k .counts-of .ensures in
+    λ a eg ew. results-are _ _ _ _ _ _ _ _ a _ _ (ap Sizes.key (k .before .before .sizes-of .ensures)) eg ew (ap Counts.gates e) (ap Counts.outputs e) (ap Counts.inputs e) (n .check-as .ensures) (f .before .room .ensures) (f .fit .ensures) (c .before .first .ensures) (c .first2 .ensures)
 
 pub results-spec : {M : Type 1} → statement M
 results-spec =
@@ -76,10 +71,9 @@ results-spec =
     (tie.spec
     sizes-of-requires
     add-inputs
-    word-at-requires
+    counts-of-requires
     cast-both
     add-both
-    word-at-requires-2
     cast-outputs
     mul-t17
     add-t18
@@ -87,7 +81,6 @@ results-spec =
     add-t20
     check-as-requires
     room-requires
-    word-at-requires-3
     fit-requires
     first-requires
     first-requires-2

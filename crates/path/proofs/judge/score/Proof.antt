@@ -4,9 +4,9 @@ use denote.Ref.{now}
 use lib.ListN.{length}
 use Rattle.answer.specs.declared.Answer.the-variants.{Done}
 use Rattle.emit.specs.Emit.{wiringAnswer}
-use Rattle.emit.proofs.Accepted.{wiring-lent, size-answer, size-counts}
-use Rattle.path.specs.Steps.{renamedTo, sizesAnswer}
-use Rattle.path.proofs.Emission.{emitted-sound}
+use Rattle.emit.proofs.Accepted.{wiring-wired, size-answer, size-counts}
+use Rattle.emit.proofs.Emission.{emitted-sound}
+use Rattle.path.specs.Inner.{renamedTo, sizesAnswer}
 use Rattle.path.proofs.Judging.{wiring, wiring-is, wiring-accepted, refused-sizes, refused-bits, refused-wiring, judged}
 use borrow.Author.Needs.{needs}
 use Rattle.path.proofs.judge.score.Statement.{statement}
@@ -86,7 +86,7 @@ returns-3 c =
 results-requires : tie.Need-results-requires
 results-requires c κs =
     let d = c .before .before .before .before in
-    omega (arith, size-counts _ (d .decipher-size .ensures) (accepted c) .0, emitted-sound _ _ _ _ (wiring-lent _ _ _ _ (accepted c)) .limits .gates)
+    omega (arith, size-counts _ (d .decipher-size .ensures) (accepted c) .0, emitted-sound _ _ _ _ (wiring-wired _ _ _ _ (accepted c)) .limits .gates)
 
 returns-4 : tie.Need-returns-4
 returns-4 c =

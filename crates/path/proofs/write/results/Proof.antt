@@ -1,9 +1,10 @@
-use mathlib.Core.Path.{sym}
+use mathlib.Core.Path.{sym, ap}
 use native.Mathlib.Omega.{arith}
 use denote.Ref.{now}
 use lib.Seq.{length-take-le}
+use Rattle.instance.specs.declared.Sizes.{Sizes}
 use Rattle.instance.proofs.Judged.{key-small}
-use Rattle.path.proofs.Writing.{Call, enciphered, emitted, key-count, enc-room, net-ready, inputs-room, glued-ready, scored}
+use Rattle.path.proofs.Writing.{Call, enciphered, emitted, key-lent, enc-room, net-ready, inputs-room, glued-ready, scored}
 use borrow.Author.Needs.{needs}
 use Rattle.path.proofs.write.results.Statement.{statement}
 use Rattle.path.proofs.write.results.Tie as tie
@@ -28,6 +29,26 @@ call s =
       out = now (a .scores);
     }
 
+-- the stages of the call, each from a later one
+abbrev start : tie.After-encipher → tie.Start
+start k = k .before .before .before .before .before .before .before .before .before .before .before .before .before
+
+abbrev at-encipher : tie.After-emit-decipher → tie.After-encipher
+at-encipher d = d .before .before .before .before
+
+abbrev at-emit : tie.After-glue-behind → tie.After-emit-decipher
+at-emit g = g .before .before .before .before .before
+
+abbrev at-glue : tie.After-sizes-of → tie.After-glue-behind
+at-glue z = z .before .before .before
+
+abbrev at-sizes : tie.After-join-inputs → tie.After-sizes-of
+at-sizes j = j .before .before .before
+
+-- from the evaluation's last argument but one
+abbrev at-join : tie.After-evaluate-front-arg3 → tie.After-join-inputs
+at-join c = c .before .before .before .before .before .before
+
 encipher-requires : tie.Need-encipher-requires
 encipher-requires c κs = search needs
 
@@ -37,54 +58,61 @@ emit-decipher-requires c κs = search needs
 glue-behind-requires : tie.Need-glue-behind-requires
 glue-behind-requires c κs =
     let d = c .before .before .before .before in
-    let k = d .before .before .before .before in
-    let s = k .before .before .before .before .before .before .before .before .before .before .before .before .before in
+    let k = at-encipher d in
+    let s = start k in
     let e = enciphered (call s) (s .pre) (k .encipher .ensures) in
     let n = emitted (call s) (s .pre) (d .emit-decipher .ensures) in
     net-ready (call s) (s .pre) e n
 
+sizes-of-requires : tie.Need-sizes-of-requires
+sizes-of-requires c κs = search needs
+
 slice-reshare-prefix-join-inputs : tie.Need-slice-reshare-prefix-join-inputs
 slice-reshare-prefix-join-inputs c =
-    let d = c .before .before .before .before .before .before .before in
-    let k = d .before .before .before .before in
-    let s = k .before .before .before .before .before .before .before .before .before .before .before .before .before in
+    let d = at-emit (at-glue c) in
+    let k = at-encipher d in
+    let s = start k in
     let e = enciphered (call s) (s .pre) (k .encipher .ensures) in
     let n = emitted (call s) (s .pre) (d .emit-decipher .ensures) in
     enc-room (call s) (s .pre) e n
 
 slice-aggregate-join-inputs : tie.Need-slice-aggregate-join-inputs
 slice-aggregate-join-inputs c =
-    let d = c .before .before .before .before .before .before .before .before in
-    let k = d .before .before .before .before in
-    let s = k .before .before .before .before .before .before .before .before .before .before .before .before .before in
+    let d = at-emit (at-glue (c .before)) in
+    let k = at-encipher d in
+    let s = start k in
     let e = enciphered (call s) (s .pre) (k .encipher .ensures) in
     let n = emitted (call s) (s .pre) (d .emit-decipher .ensures) in
     sym (length-take-le _ _ (enc-room (call s) (s .pre) e n))
 
 join-inputs-requires : tie.Need-join-inputs-requires
 join-inputs-requires c κs =
-    let d = c .before .before .before .before .before .before .before .before .before in
-    let k = d .before .before .before .before in
-    let s = k .before .before .before .before .before .before .before .before .before .before .before .before .before in
+    let z = c .before .before in
+    let d = at-emit (at-glue z) in
+    let k = at-encipher d in
+    let s = start k in
     let e = enciphered (call s) (s .pre) (k .encipher .ensures) in
     let n = emitted (call s) (s .pre) (d .emit-decipher .ensures) in
-    inputs-room (call s) (s .pre) e n
+    let bits = ap Sizes.key (z .sizes-of .ensures) in
+    (key-lent (call s) (s .pre), bits, omega (arith, bits, inputs-room (call s) (s .pre) e n))
 
 add-evaluate-front : tie.Need-add-evaluate-front
 add-evaluate-front c =
-    let s = c .before .before .before .before .before .before .before .before .before .before .before .before .before .before .before .before .before .before .before .before .before .before .before .before .before .before .before .before .before .before .before in
-    record { fits = omega (arith, key-count (call s) (s .pre), key-small (s .args .instance)) }
+    let z = at-sizes (c .before .before .before .before .before) in
+    let s = start (at-encipher (at-emit (at-glue z))) in
+    record { fits = omega (arith, ap Sizes.key (z .sizes-of .ensures), key-small (s .args .instance)) }
 
 evaluate-front-requires : tie.Need-evaluate-front-requires
 evaluate-front-requires c κs =
-    let j = c .before .before .before .before .before .before in
-    let g = j .before .before .before .before .before in
-    let d = g .before .before .before .before .before in
-    let k = d .before .before .before .before in
-    let s = k .before .before .before .before .before .before .before .before .before .before .before .before .before in
+    let j = at-join (c .before) in
+    let z = at-sizes j in
+    let g = at-glue z in
+    let d = at-emit g in
+    let k = at-encipher d in
+    let s = start k in
     let e = enciphered (call s) (s .pre) (k .encipher .ensures) in
     let n = emitted (call s) (s .pre) (d .emit-decipher .ensures) in
-    glued-ready (call s) (s .pre) e n (g .glue-behind .ensures) (j .join-inputs .ensures)
+    rw (ap Sizes.key (z .sizes-of .ensures)) (glued-ready (call s) (s .pre) e n (g .glue-behind .ensures) (j .join-inputs .ensures))
 
 same-length : tie.Need-same-length
 same-length c = search needs
@@ -107,14 +135,16 @@ same-length-6 c = search needs
 returns : tie.Need-returns
 returns c =
     let v = c .before .before .before .before in
-    let j = v .before .before .before .before .before .before .before in
-    let g = j .before .before .before .before .before in
-    let d = g .before .before .before .before .before in
-    let k = d .before .before .before .before in
-    let s = k .before .before .before .before .before .before .before .before .before .before .before .before .before in
+    let j = at-join (v .before .before) in
+    let z = at-sizes j in
+    let g = at-glue z in
+    let d = at-emit g in
+    let k = at-encipher d in
+    let s = start k in
     let e = enciphered (call s) (s .pre) (k .encipher .ensures) in
     let n = emitted (call s) (s .pre) (d .emit-decipher .ensures) in
-    scored (call s) (s .pre) e n (g .glue-behind .ensures) (j .join-inputs .ensures) (v .evaluate-front .ensures .0) (v .evaluate-front .ensures .1)
+    let bits = ap Sizes.key (z .sizes-of .ensures) in
+    scored (call s) (s .pre) e n (g .glue-behind .ensures) (j .join-inputs .ensures) (rw bits at (v .evaluate-front .ensures .0)) (rw bits at (v .evaluate-front .ensures .1))
 
 pub results-spec : {M : Type 1} → statement M
 results-spec =
@@ -123,6 +153,7 @@ results-spec =
     encipher-requires
     emit-decipher-requires
     glue-behind-requires
+    sizes-of-requires
     slice-reshare-prefix-join-inputs
     slice-aggregate-join-inputs
     join-inputs-requires
