@@ -14,13 +14,13 @@ use Rattle.cells.specs.Cells.{oneHotNet, thresholdNet}
 use Rattle.cells.proofs.Facts.{one-hot-valid, one-hot-inputs, one-hot-outputs, one-hot-gates-64, threshold-valid, threshold-inputs, threshold-outputs, threshold-gates-64}
 use Rattle.wiring.specs.Costs.{costOf}
 use Rattle.wiring.specs.Decipher.{rowsNet}
-use Rattle.wiring.specs.Rows.{Rows}
 use Rattle.wiring.proofs.Claims.{rows-mults, rows-depth, rows-sound}
 use Rattle.rounds.specs.Gates.{kreyviumNet}
 use Rattle.rounds.proofs.Sound.{kreyvium-mults, kreyvium-sound}
 use Rattle.rounds.proofs.Depths.{kreyvium-depths}
 use Rattle.emit.specs.Emit.{decipherNet}
-use Rattle.emit.proofs.Accepted.{net-kreyvium, net-rows, by-six, iv-lent, rows-lent, outs-count}
+use Rattle.emit.specs.InnerRows.{Wiring}
+use Rattle.emit.proofs.Accepted.{net-kreyvium, net-rows, by-six, iv-lent, wiring-of, outs-count}
 
 -- One-hot and threshold netlists, up to 64 inputs, are accepted by every netlist call.
 pub one-hot-sound : (n : ℕ) → n ≤ 64 → Sound (words (oneHotNet n))
@@ -42,18 +42,16 @@ threshold-sound d n h low high =
     }
 
 module _ (inst m : ℕ) (idx wh : List ℕ) (l : Wired inst m idx wh) where
-  rows : (inst ≡ 6 → ⊥) → Rows inst m idx wh
-  rows n = record { indices = l .indices; whitening = rows-lent inst m idx wh l n; below = l .below; whiteBit = l .whiteBit }
-
-  five : (inst ≡ 6 → ⊥) → inst ≤ 5
-  five n = omega (arith, l .most)
+  -- of instances 1 to 5, for the writers of their netlist
+  rows : (inst ≡ 6 → ⊥) → Wiring inst m idx wh
+  rows n = wiring-of inst m idx wh l n
 
   -- The emitted words are accepted by every netlist call.
   pub emitted-sound : Sound (words (decipherNet inst m idx wh))
   emitted-sound =
       by-six inst
       (λ e. rw (net-kreyvium inst m idx wh e) (kreyvium-sound wh m (l .few)))
-      (λ n. rw (net-rows inst m idx wh n) (rows-sound inst m idx wh (l .least) (five n) (rows n) (l .few)))
+      (λ n. rw (net-rows inst m idx wh n) (rows-sound inst m idx wh (rows n .low) (rows n .high) (rows n .rows) (l .few)))
 
   -- Inputs: N key bits, then m record bits; outputs m.
   pub emitted-inputs : inputsOf (words (decipherNet inst m idx wh)) ≡ keyBits inst + m
@@ -68,10 +66,10 @@ module _ (inst m : ℕ) (idx wh : List ℕ) (l : Wired inst m idx wh) where
 
   -- Multiplications and depth: the rules' table for instances 1 to 5; Kreyvium's, and its bound for output bit t.
   pub emitted-mults : (inst ≡ 6 → ⊥) → mults (decipherNet inst m idx wh) ≡ m * costOf inst .mults
-  emitted-mults n = ap mults (net-rows inst m idx wh n) ∙ rows-mults inst m idx wh (l .least) (five n) (rows n)
+  emitted-mults n = ap mults (net-rows inst m idx wh n) ∙ rows-mults inst m idx wh (rows n .low) (rows n .high) (rows n .rows)
 
   pub emitted-depth : (inst ≡ 6 → ⊥) → depth (decipherNet inst m idx wh) ≡ costOf inst .depth
-  emitted-depth n = ap depth (net-rows inst m idx wh n) ∙ rows-depth inst m idx wh (l .least) (five n) (rows n) (l .some)
+  emitted-depth n = ap depth (net-rows inst m idx wh n) ∙ rows-depth inst m idx wh (rows n .low) (rows n .high) (rows n .rows) (l .some)
 
   pub kreyvium-emitted-mults : inst ≡ 6 → mults (decipherNet inst m idx wh) ≡ 3 * (1152 + m)
   kreyvium-emitted-mults e = ap mults (net-kreyvium inst m idx wh e) ∙ kreyvium-mults wh m

@@ -7,7 +7,7 @@ use native.Mathlib.Numerals.{add-one}
 use lib.ListN.{length, getD, set, length-append}
 use lib.Seq.{sets}
 use Rattle.answer.specs.Fronts.{over}
-use Rattle.answer.proofs.Over.{over-none, over-sets}
+use Rattle.answer.proofs.Over.{over-front}
 use Rattle.netlist.specs.declared.counts.Counts.{Counts}
 use Rattle.netlist.specs.declared.gate.Gate.{Gate}
 use Rattle.netlist.specs.declared.gate.Gate.the-variants.{Zero, One, Not, Xor, And, Mux}
@@ -32,9 +32,6 @@ use Rattle.file.proofs.Written.{wordsBytes-length, gate-length, out-len
 
 sets-at : (a l b : List ℕ) (i k : ℕ) → k ≡ i + length a → sets (sets l i a) k b ≡ sets l i (a ++ b)
 sets-at a l b i k e = rw e (sym (sets-append a l b i))
-
-sets-over : (w l : List ℕ) → length w ≤ length l → sets l 0 w ≡ over w l
-sets-over w l h = ap (λ x. sets x 0 w) (sym (over-none l)) ∙ over-sets [] w l 0 refl (omega arith)
 
 pub joined-none : (f : ℕ → List ℕ) (l : List ℕ) (at : ℕ) → l ≡ sets l at (joined 0 f)
 unfolding joined
@@ -103,7 +100,7 @@ file-put form net l n {m1} {m2} {m3} {m4} {letter} {at} h k g a b c e d =
     let e2 : m3 ≡ sets l 0 (hd ++ gs) = c ∙ ap (λ x. sets x headSize gs) e1 ∙ sets-at hd l gs 0 headSize (omega arith) in
     let e3 : m4 ≡ sets l 0 (hd ++ gs ++ os) = d ∙ ap (λ x. sets x at os) e2 ∙ sets-at (hd ++ gs) l os 0 at (omega (arith, length-append hd gs)) in
     let e4 : hd ++ gs ++ os ≡ fileOf form net = rw (k, g) in
-    e3 ∙ ap (λ x. sets l 0 x) e4 ∙ sets-over (fileOf form net) l h
+    e3 ∙ ap (λ x. sets l 0 x) e4 ∙ over-front (fileOf form net) l h
 
 -- a gate's kind is a byte
 kind-small : (g : Gate) (k a b c : ℕ) → gateWords g ≡ k ∷ a ∷ b ∷ c ∷ [] → k < 256
@@ -151,4 +148,4 @@ words-put form s l c {m1} {m2} {m3} {from} h g a b e d =
     let e2 : m3 ≡ sets l 0 (header c ++ gs ++ os) =
     d ∙ ap (λ x. sets x at os) e1 ∙ sets-at (header c ++ gs) l os 0 at (omega (arith, length-append (header c) gs, fours-length form s (c .gates))) in
     let e3 : header c ++ gs ++ os ≡ wordsIn form s = rw (e, g) in
-    e2 ∙ ap (λ x. sets l 0 x) e3 ∙ sets-over (wordsIn form s) l (omega (arith, words-length form s))
+    e2 ∙ ap (λ x. sets l 0 x) e3 ∙ over-front (wordsIn form s) l (omega (arith, words-length form s))

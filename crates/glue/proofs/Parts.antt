@@ -9,7 +9,7 @@ use lib.ListN.{length, getD, take, drop, length-map, length-drop, length-take}
 use lib.Seq.{sets, drop-length, getD-drop, take-at}
 use Rattle.answer.specs.Choose.{choose}
 use Rattle.answer.specs.Fronts.{over}
-use Rattle.answer.proofs.Over.{length-over, over-none, over-sets, over-tail, tail-is}
+use Rattle.answer.proofs.Over.{length-over, over-front, over-sets, over-tail, tail-is}
 use Rattle.netlist.specs.declared.counts.Counts.{Counts}
 use Rattle.netlist.specs.declared.gate.Gate.{Gate}
 use Rattle.netlist.specs.declared.gate.Gate.the-variants.{Zero, One, Not, Xor, And, Mux}
@@ -143,16 +143,13 @@ glued-whole a b room f =
     rw (g, o, gatesWords-append (A .gates), gate-part a (f .first), second-part a b, append-assoc (gatesWords (A .gates)))
 
 -- the header stored in front
-header-over : (c : Counts) (old : List ℕ) → headerWords ≤ length old → sets old 0 (header c) ≡ over (header c) old
-header-over c old h = ap (λ (t : List ℕ). sets t 0 (header c)) (sym (over-none old)) ∙ over-sets [] (header c) old 0 refl h
-
 -- by the first netlist's counts n
 pub first-written : (a b old : List ℕ) (n : Counts) {c : Counts} {head part : List ℕ} → n ≡ countsOf a → headerWords ≤ length old → c ≡ gluedCounts (countsOf a) (countsOf b) → head ≡ sets old 0 (header c)
     → part ≡ over (take (gatePlace (n .gates) - headerWords) (drop headerWords a)) (take (length head - headerWords) (drop headerWords head))
     → putMid headerWords (length head - headerWords) head part ≡ over (firstWords a b) old
 first-written a b old n {c} {head} f h k o p =
     let e : gatePlace (n .gates) - headerWords ≡ gateStride * gatesOf a = omega (arith, ap (λ (m : Counts). m .gates) f) in
-    let w : head ≡ over (gluedHeader a b) old = o ∙ header-over c old h ∙ ap (λ (n : Counts). over (header n) old) k in
+    let w : head ≡ over (gluedHeader a b) old = o ∙ over-front (header c) old h ∙ ap (λ (n : Counts). over (header n) old) k in
     wrote-tail (gluedHeader a b) (take (gateStride * gatesOf a) (drop headerWords a)) old headerWords refl h w
     (kept-length _ old w h)
     (rw e at p)

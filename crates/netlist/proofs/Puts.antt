@@ -4,10 +4,10 @@ use mathlib.Core.Path.{_≡_, refl, sym, ap, _∙_}
 use mathlib.Core.List.{List, [], _∷_, _++_, append-assoc}
 use native.Mathlib.Omega.{arith}
 use native.Mathlib.Numerals.{add-one}
-use native.Mathlib.Nat.{zero-add}
 use lib.ListN.{length, getD, set, drop, length-append, drop-of-length-le}
-use lib.Seq.{sets, set-set, set-comm, length-sets, drop-cons, sets-eq}
+use lib.Seq.{sets, set-set, set-comm, length-sets, drop-cons}
 use Rattle.answer.specs.Fronts.{over}
+use Rattle.answer.proofs.Over.{over-front}
 use Rattle.netlist.specs.declared.counts.Counts.{Counts}
 use Rattle.netlist.specs.declared.gate.Gate.{Gate}
 use Rattle.netlist.specs.Gates.{gateWords}
@@ -105,12 +105,10 @@ words-length n = omega (arith, length-append (gatesWords (n .gates)) (n .outs), 
 pub net-put : (n : Net) (out o₁ o₂ o₃ : List ℕ) (c : Counts) (at : ℕ) → c ≡ netCounts n
     → at ≡ gatePlace (length (n .gates)) → length (words n) ≤ length out
     → o₁ ≡ sets out 0 (header c) → o₂ ≡ putGates o₁ headerWords (n .gates) → o₃ ≡ sets o₂ at (n .outs) → o₃ ≡ over (words n) out
-unfolding over
 net-put n out o₁ o₂ o₃ c at ec ea room e₁ e₂ e₃ =
     e₃
     ∙ (λ k. sets (e₂ k) (ea k) (n .outs))
     ∙ (λ k. sets (putGates (e₁ k) headerWords (n .gates)) (gatePlace (length (n .gates))) (n .outs))
     ∙ (λ k. sets (putGates (sets out 0 (header (ec k))) headerWords (n .gates)) (gatePlace (length (n .gates))) (n .outs))
     ∙ sym (words-put (n .gates) (sets out 0 (header (netCounts n))) (n .outs) headerWords)
-    ∙ sets-eq (words n) out 0 (omega arith)
-    ∙ ap (λ (k : ℕ). words n ++ drop k out) (zero-add (length (words n)))
+    ∙ over-front (words n) out room

@@ -1,14 +1,13 @@
 -- What score's steps make, one after the other, where all is judged.
 use Prim.Native.Nat.{ℕ, _+_, _≤_}
 use mathlib.Core.Path.{_≡_, refl, sym, ap, subst, _∙_}
-use mathlib.Core.List.{List, [], _++_}
+use mathlib.Core.List.{List, _++_}
 use native.Mathlib.Omega.{arith}
 use lib.ListN.{length, take, length-append}
-use lib.Seq.{sets}
 use Rattle.answer.specs.declared.Answer.{Answer}
 use Rattle.answer.specs.declared.Answer.the-variants.{Done, Refused}
 use Rattle.answer.specs.Fronts.{over}
-use Rattle.answer.proofs.Over.{over-none, over-sets, take-over, over-at, length-over, kept, made}
+use Rattle.answer.proofs.Over.{take-over, over-at, length-over, kept, made}
 use Rattle.netlist.specs.Net.{Net, values, eval}
 use Rattle.netlist.specs.Words.{wordCount, words, netOf}
 use Rattle.netlist.specs.Glue.{glue}
@@ -37,10 +36,6 @@ use Rattle.path.proofs.Accepted.{Spacious, fitting, wired, keyed, bits,
 pub front-is : (ws : List ℕ) (n : ℕ) → n ≡ frontSize ws → take n ws ≡ front ws
 unfolding front
 front-is ws n e = ap (λ (k : ℕ). take k ws) e
-
--- a list put at the front of another
-pub front-put : (a old : List ℕ) → length a ≤ length old → sets old 0 a ≡ over a old
-front-put a old h = ap (λ (x : List ℕ). sets x 0 a) (sym (over-none old)) ∙ over-sets [] a old 0 refl (omega arith)
 
 -- evaluation that is accepted
 pub evaluated : (net inp vals outs : List ℕ) {r : Answer} {vals′ outs′ : List ℕ} → Ready net inp (length vals) (length outs) → Evaluated net inp vals outs r vals′ outs′

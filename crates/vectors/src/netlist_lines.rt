@@ -4,6 +4,9 @@ use crate::text::say;
 use crate::text::say_bits;
 use crate::text::say_number;
 use answer::Answer;
+use netlist::GATE_STRIDE;
+use netlist::HEADER_WORDS;
+use netlist::counts::counts_of;
 use netlist::gate::AND_KIND;
 use netlist::gate::Gate;
 use netlist::gate::MUX_KIND;
@@ -58,7 +61,7 @@ fn say_outputs(net: &[u32], inputs: &[u8]) {
         say(b"refused");
         return;
     };
-    say_bits(&outputs, answer::word_at(net, 2) as usize);
+    say_bits(&outputs, counts_of(net).outputs as usize);
 }
 
 fn line(source: &[u8], net: &[u32], inputs: &[u8]) {
@@ -154,13 +157,13 @@ fn say_operand(used: bool, wire: u32) {
 
 // A gate's wire, kind and used operands.
 fn say_gate(net: &[u32], g: u32) {
-    let start = 3 + 4 * (g as usize);
+    let start = HEADER_WORDS + GATE_STRIDE * (g as usize);
     let kind = answer::word_at(net, start);
     let a = answer::word_at(net, start + 1);
     let b = answer::word_at(net, start + 2);
     let c = answer::word_at(net, start + 3);
     say(b" ");
-    say_number(answer::word_at(net, 0) as usize + g as usize);
+    say_number(counts_of(net).inputs as usize + g as usize);
     say(b" ");
     let t = netlist::gate::take_apart(kind, a, b, c);
     let Taken::Valid(gate) = t else {
@@ -201,7 +204,7 @@ fn print_two_of_three() {
 // ZERO, ONE and the first round; the last round, which gives the bit.
 fn say_kreyvium(net: &[u32]) {
     say(b"rules, What is emitted, Kreyvium of 1 bit, IV all zero: ");
-    say_number(answer::word_at(net, 1) as usize);
+    say_number(counts_of(net).gates as usize);
     say(b" gates, from");
     say_gates(net, 0, 16);
     say(b" to");

@@ -1,7 +1,7 @@
 use mathlib.Core.Path.{_∙_}
 use native.Mathlib.Omega.{arith}
 use Rattle.instance.specs.Keys.{Keyed, keyIn}
-use Rattle.path.proofs.Writing.{front-put}
+use Rattle.answer.proofs.Over.{over-front}
 use borrow.Author.Needs.{needs}
 use Rattle.path.proofs.write.put_key.Statement.{statement}
 use Rattle.path.proofs.write.put_key.Tie as tie
@@ -20,7 +20,7 @@ unfolding Keyed keyIn
 returns c =
     let b = c .before .before in
     let s = b .before .before .before .before in
-    b .put-bytes .ensures ∙ front-put _ _ (omega (arith, s .pre .0 .size, s .pre .1))
+    b .put-bytes .ensures ∙ over-front _ _ (omega (arith, s .pre .0 .size, s .pre .1))
 
 pub put-key-spec : {M : Type 1} → statement M
 put-key-spec = tie.close (tie.spec put-bytes-requires same-length returns)
