@@ -14,16 +14,16 @@ use Rattle.netlist.specs.Part.{Part}
 use Rattle.netlist.specs.Glue.{upFrom}
 use Rattle.netlist.proofs.Glued.{upFrom-length, net-eq}
 use Rattle.cells.specs.Cells as C
-use Rattle.cells.specs.Cells.{Kept, Level, cellGates, rowGates, levelGates, levelAfter, levelsGates, levelsEnd, allGates, lastLevel}
+use Rattle.cells.specs.Cells.{Kept, CellLevel, cellGates, rowGates, levelGates, levelAfter, levelsGates, levelsEnd, allGates, lastLevel}
 use Rattle.cells.proofs.Samples.{one-of-one}
 use Rattle.cells.specs.InnerLoop.{pos, down, tail, lowGates, sumGates, levels, firstGates, firstWire, cells}
 
 -- the cells over the row before it, whose cells j, j + 1, .. j + m stand at wires a, s, s + 1, ..
-pub record Rows (b : ℕ → ℕ) (j a s m : ℕ) : Type 0 where
+pub record CellRows (b : ℕ → ℕ) (j a s m : ℕ) : Type 0 where
   pub first : b j ≡ a
   pub rest : (k : ℕ) → k < m → b (suc j + k) ≡ s + k
 
-rows-next : (b : ℕ → ℕ) (j a s m : ℕ) → Rows b j a s (suc m) → Rows b (suc j) s (s + 1) m
+rows-next : (b : ℕ → ℕ) (j a s m : ℕ) → CellRows b j a s (suc m) → CellRows b (suc j) s (s + 1) m
 rows-next b j a s m r =
     let z : suc j ≡ suc j + 0 = omega arith in
     record {
@@ -36,7 +36,7 @@ unfolding cellGates
 low-cell i x b w a l r = rw r
 
 -- a cell over two neighbours
-cell-mux : (i x : ℕ) (b : ℕ → ℕ) (w j a s m : ℕ) → Rows b j a s (suc m) → suc j < i → cellGates i x b w (suc j) ≡ Mux x s a ∷ []
+cell-mux : (i x : ℕ) (b : ℕ → ℕ) (w j a s m : ℕ) → CellRows b j a s (suc m) → suc j < i → cellGates i x b w (suc j) ≡ Mux x s a ∷ []
 unfolding cellGates
 cell-mux i x b w j a s m r h =
     let r′ = rows-next b j a s m r in
@@ -55,7 +55,7 @@ unfolding rowGates
 row-none i x b w j = refl
 
 -- below level d the last cell is an AND
-row-whole : (m i x : ℕ) (b : ℕ → ℕ) (w j a s : ℕ) → Rows b j a s m → i ≡ suc (j + m) → rowGates i x b w (suc j) (suc m) ≡ tail x a s m
+row-whole : (m i x : ℕ) (b : ℕ → ℕ) (w j a s : ℕ) → CellRows b j a s m → i ≡ suc (j + m) → rowGates i x b w (suc j) (suc m) ≡ tail x a s m
 row-whole zero i x b w j a s r e =
     row-next i x b w (suc j) 0 ∙ ap₂ _++_ (cell-and i x b w j a (r .first) (omega arith)) (row-none i x b _ (suc (suc j)))
 row-whole (suc m) i x b w j a s r e =
@@ -63,7 +63,7 @@ row-whole (suc m) i x b w j a s r e =
     ∙ ap₂ _++_ (cell-mux i x b w j a s m r (omega arith)) (row-whole m i x b _ (suc j) s (s + 1) (rows-next b j a s m r) (omega arith))
 
 -- from level d on it is the sum's
-row-less : (m i x : ℕ) (b : ℕ → ℕ) (w j a s : ℕ) → Rows b j a s m → j + m < i → rowGates i x b w (suc j) m ++ And (b (j + m)) x ∷ [] ≡ tail x a s m
+row-less : (m i x : ℕ) (b : ℕ → ℕ) (w j a s : ℕ) → CellRows b j a s m → j + m < i → rowGates i x b w (suc j) m ++ And (b (j + m)) x ∷ [] ≡ tail x a s m
 row-less zero i x b w j a s r e =
     let z : j + 0 ≡ j = omega arith in
     ap₂ _++_ (row-none i x b w (suc j)) (ap (λ (p : ℕ). And p x ∷ []) (ap b z ∙ r .first))
@@ -191,20 +191,20 @@ not-is q i zero j a = rw (ne-eqb (suc j - 0) 0 (λ e. absurd (omega arith)))
 not-is q i (suc l) j a = rw (eq-eqb (suc j - 1) 0 (omega (arith, a .zeroth (omega arith))))
 
 module _ (K : Kept) where
-  sum-not : (i x w : ℕ) (L : Level) → i < K .sum → C.sumGates K i x L w ≡ []
+  sum-not : (i x w : ℕ) (L : CellLevel) → i < K .sum → C.sumGates K i x L w ≡ []
   unfolding C.sumGates
   sum-not i x w L h = rw (lt-ltb i (K .sum) h)
 
-  sum-first : (i x w t : ℕ) (L : Level) → i ≡ K .sum → t ≡ K .sum - 1 → C.sumGates K i x L w ≡ And (L .cell t) x ∷ []
+  sum-first : (i x w t : ℕ) (L : CellLevel) → i ≡ K .sum → t ≡ K .sum - 1 → C.sumGates K i x L w ≡ And (L .cell t) x ∷ []
   unfolding C.sumGates
   sum-first i x w t L h e = rw (le-ltb i (K .sum) (omega arith), eq-eqb i (K .sum) h, e)
 
-  sum-later : (i x w t sum : ℕ) (L : Level) → K .sum < i → t ≡ K .sum - 1 → L .sum ≡ sum → C.sumGates K i x L w ≡ And (L .cell t) x ∷ Xor w sum ∷ []
+  sum-later : (i x w t sum : ℕ) (L : CellLevel) → K .sum < i → t ≡ K .sum - 1 → L .sum ≡ sum → C.sumGates K i x L w ≡ And (L .cell t) x ∷ Xor w sum ∷ []
   unfolding C.sumGates
   sum-later i x w t sum L h e f = rw (le-ltb i (K .sum) (omega arith), ne-eqb i (K .sum) (λ q. absurd (omega arith)), e, f)
 
   -- a level from its second cell on
-  level-top : (h i x j a s m sum v w t : ℕ) (L : Level) → Highs (K .sum) i h (j + m) → Rows (L .cell) j a s m → 1 ≤ i → (h ≡ 0 → L .sum ≡ sum) → (h ≡ 0 → w ≡ t)
+  level-top : (h i x j a s m sum v w t : ℕ) (L : CellLevel) → Highs (K .sum) i h (j + m) → CellRows (L .cell) j a s m → 1 ≤ i → (h ≡ 0 → L .sum ≡ sum) → (h ≡ 0 → w ≡ t)
       → rowGates i x (L .cell) v (suc j) (m + pos (down h)) ++ C.sumGates K i x L w ≡ tail x a s m ++ sumGates h t sum
   level-top zero i x j a s m sum v w t L k r p f g =
       let z : m + 0 ≡ m = omega arith in
@@ -226,13 +226,13 @@ module _ (K : Kept) where
       let more = k .more (omega arith) in
       ap₂ _++_ (ap (rowGates i x (L .cell) v (suc j)) z ∙ row-whole m i x (L .cell) v j a s r (omega arith)) (sum-not i x w L (omega arith))
 
-  open-level : (i x : ℕ) (L : Level) (row : List Gate) → rowGates i x (L .cell) (L .next) (K .low i) (suc (K .high i) - K .low i) ≡ row
+  open-level : (i x : ℕ) (L : CellLevel) (row : List Gate) → rowGates i x (L .cell) (L .next) (K .low i) (suc (K .high i) - K .low i) ≡ row
       → levelGates K i x L ≡ row ++ C.sumGates K i x L (L .next + length row)
   unfolding levelGates
   open-level i x L row e = rw e
 
   -- one level
-  level-same : (q i x l h j a s m next sum : ℕ) (L : Level) → Lows q i l j → Highs (K .sum) i h (j + m) → Rows (L .cell) j a s m → L .next ≡ next → (h ≡ 0 → L .sum ≡ sum)
+  level-same : (q i x l h j a s m next sum : ℕ) (L : CellLevel) → Lows q i l j → Highs (K .sum) i h (j + m) → CellRows (L .cell) j a s m → L .next ≡ next → (h ≡ 0 → L .sum ≡ sum)
       → 1 ≤ i → K .low i ≡ i - q → K .high i ≡ min i (K .sum - 1)
       → levelGates K i x L ≡ lowGates l x a next ++ (tail x a s m ++ sumGates h (next + 2 * pos l + m) sum)
   level-same q i x l h j a s m next sum L cl ch r en es p lo hi =
@@ -255,35 +255,35 @@ module _ (K : Kept) where
       top-wire zero y next l m n h0 e f = omega arith
       top-wire (suc h) y next l m n h0 e f = absurd (omega arith)
 
-  after-cell : (i x j : ℕ) (L : Level) → levelAfter K i x L .cell j ≡ L .next + choose (eqb (K .low i) 0) 1 0 + (j - K .low i)
+  after-cell : (i x j : ℕ) (L : CellLevel) → levelAfter K i x L .cell j ≡ L .next + choose (eqb (K .low i) 0) 1 0 + (j - K .low i)
   unfolding levelAfter
   after-cell i x j L = refl
 
-  after-next : (i x : ℕ) (L : Level) → levelAfter K i x L .next ≡ L .next + length (levelGates K i x L)
+  after-next : (i x : ℕ) (L : CellLevel) → levelAfter K i x L .next ≡ L .next + length (levelGates K i x L)
   unfolding levelAfter
   after-next i x L = refl
 
-  after-sum : (i x : ℕ) (L : Level) → K .sum ≤ i → levelAfter K i x L .sum ≡ L .next + length (levelGates K i x L) - 1
+  after-sum : (i x : ℕ) (L : CellLevel) → K .sum ≤ i → levelAfter K i x L .sum ≡ L .next + length (levelGates K i x L) - 1
   unfolding levelAfter
   after-sum i x L h = rw (le-ltb i (K .sum) h)
 
   -- the loop's state before level i stands for the level before it
-  pub record Tied (q i l h a s m next sum : ℕ) (L : Level) : Type 0 where
+  pub record Tied (q i l h a s m next sum : ℕ) (L : CellLevel) : Type 0 where
     pub j : ℕ
     pub lows : Lows q i l j
     pub highs : Highs (K .sum) i h (j + m)
-    pub rows : Rows (L .cell) j a s m
+    pub rows : CellRows (L .cell) j a s m
     pub here : L .next ≡ next
     pub sums : h ≡ 0 → L .sum ≡ sum
 
   -- levels up to q keep cell 0, and up to level n there is a cell
   module _ (q n : ℕ) (lowIs : (i : ℕ) → i ≤ n → K .low i ≡ i - q) (highIs : (i : ℕ) → i ≤ n → K .high i ≡ min i (K .sum - 1)) (enough : n ≤ q + K .sum) where
-    tied-level : (i x l h a s m next sum : ℕ) (L : Level) → Tied q i l h a s m next sum L → 1 ≤ i → i ≤ n
+    tied-level : (i x l h a s m next sum : ℕ) (L : CellLevel) → Tied q i l h a s m next sum L → 1 ≤ i → i ≤ n
         → levelGates K i x L ≡ lowGates l x a next ++ (tail x a s m ++ sumGates h (next + 2 * pos l + m) sum)
     tied-level i x l h a s m next sum L c p e =
         level-same q i x l h (c .j) a s m next sum L (c .lows) (c .highs) (c .rows) (c .here) (c .sums) p (lowIs i e) (highIs i e)
 
-    tied-next : (i x l h a s m next sum : ℕ) (L : Level) → Tied q i l h a s m next sum L → 1 ≤ i → suc i ≤ n
+    tied-next : (i x l h a s m next sum : ℕ) (L : CellLevel) → Tied q i l h a s m next sum L → 1 ≤ i → suc i ≤ n
         → Tied q (suc i) (down l) (down h) (next + pos l) (next + pos l + 1) (pos l + m + pos (down h) - 1) (next + 2 * pos l + m + 2 - pos h) (next + 2 * pos l + m + 1 - pos h)
         (levelAfter K i x L)
     tied-next i x l h a s m next sum L c p e =
@@ -325,7 +325,7 @@ module _ (K : Kept) where
         begun i (suc (suc h)) t e k = absurd (omega arith)
 
     -- all levels from i on
-    levels-same : (xs : List ℕ) (i l h a s m next sum : ℕ) (L : Level) → (0 < length xs → Tied q i l h a s m next sum L) → 1 ≤ i → i + length xs ≤ suc n
+    levels-same : (xs : List ℕ) (i l h a s m next sum : ℕ) (L : CellLevel) → (0 < length xs → Tied q i l h a s m next sum L) → 1 ≤ i → i + length xs ≤ suc n
         → levelsGates K i xs L ≡ levels xs l h a s m next sum
     unfolding levelsGates
     levels-same [] i l h a s m next sum L c p e = refl
@@ -390,7 +390,7 @@ module _ (K : Kept) where
           (λ f. first-tied x next (omega arith)) (omega arith) (omega arith))
 
   -- after the last level
-  end-next : (xs : List ℕ) (i : ℕ) (L : Level) → levelsEnd K i xs L .next ≡ L .next + length (levelsGates K i xs L)
+  end-next : (xs : List ℕ) (i : ℕ) (L : CellLevel) → levelsEnd K i xs L .next ≡ L .next + length (levelsGates K i xs L)
   unfolding levelsEnd levelsGates
   end-next [] i L = omega arith
   end-next (x ∷ xs) i L =
@@ -398,7 +398,7 @@ module _ (K : Kept) where
       ∙ ap (λ (y : ℕ). y + length (levelsGates K (suc i) xs (levelAfter K i x L))) (after-next i x L)
       ∙ omega (arith, length-append (levelGates K i x L) (levelsGates K (suc i) xs (levelAfter K i x L)))
 
-  end-sum : (x : ℕ) (xs : List ℕ) (i : ℕ) (L : Level) → K .sum ≤ i + length xs → levelsEnd K i (x ∷ xs) L .sum ≡ levelsEnd K i (x ∷ xs) L .next - 1
+  end-sum : (x : ℕ) (xs : List ℕ) (i : ℕ) (L : CellLevel) → K .sum ≤ i + length xs → levelsEnd K i (x ∷ xs) L .sum ≡ levelsEnd K i (x ∷ xs) L .next - 1
   unfolding levelsEnd
   end-sum x [] i L e = after-sum i x L (omega arith) ∙ ap (λ (y : ℕ). y - 1) (sym (after-next i x L))
   end-sum x (y ∷ xs) i L e = end-sum y xs (suc i) (levelAfter K i x L) (omega arith)
@@ -483,7 +483,7 @@ wires-up zero k f h = ap (λ (y : ℕ). y ∷ []) (h 0 ∙ omega arith)
 wires-up (suc n) k f h = ap₂ (λ (r : List ℕ) (y : ℕ). r ++ y ∷ []) (wires-up n k f h) (h (suc n)) ∙ sym (up-more k (suc n))
 
 module _ (n : ℕ) where
-  hot-length : (i x : ℕ) (L : Level) → i ≤ n → length (levelGates (C.allCells n) i x L) ≡ i + 2
+  hot-length : (i x : ℕ) (L : CellLevel) → i ≤ n → length (levelGates (C.allCells n) i x L) ≡ i + 2
   hot-length i x L h =
       let b = L .cell in
       let w = L .next in
@@ -494,7 +494,7 @@ module _ (n : ℕ) where
       ∙ ap (λ (s : List Gate). (G ++ R) ++ s) (sum-not (C.allCells n) i x (w + length (G ++ R)) L (omega arith)) ∙ append-nil (G ++ R))
       ∙ length-append G R ∙ ap₂ _+_ (ap length (low-cell i x b w (b 0) 0 refl)) (row-length i i x b v 0) ∙ omega arith
 
-  hot-end : (x : ℕ) (xs : List ℕ) (i : ℕ) (L : Level) (j : ℕ) → i + length xs ≡ n
+  hot-end : (x : ℕ) (xs : List ℕ) (i : ℕ) (L : CellLevel) (j : ℕ) → i + length xs ≡ n
       → levelsEnd (C.allCells n) i (x ∷ xs) L .cell j ≡ levelsEnd (C.allCells n) i (x ∷ xs) L .next - suc n + j
   unfolding levelsEnd
   hot-end x [] i L j e =

@@ -247,7 +247,7 @@ module _ {Val : Type 0} (A : Alg Val) where
   vals-append xs env ys b = map-agree (at A (env ++ ys)) (at A env) (length env) xs b (at-append env ys)
 
   -- where a run of levels may begin: the inputs, the sum and the row r before it stand in env, and there are cells enough for the levels
-  pub record Ready (xs : List ℕ) (l h a s m next sm : ℕ) (env r : List Val) : Type 0 where
+  pub record CellsReady (xs : List ℕ) (l h a s m next sm : ℕ) (env r : List Val) : Type 0 where
     pub inputs : Below (length env) xs
     pub here : next ≡ length env
     pub sumIn : sm < length env
@@ -257,8 +257,8 @@ module _ {Val : Type 0} (A : Alg Val) where
     pub enough : length xs ≤ m + l + max h 1
 
   -- a level leaves a row that the next can take
-  ready-next : (x : ℕ) (xs : List ℕ) (l h a s m next sm : ℕ) (env r : List Val) (X P S : Val) (VS : List Val) → Ready (x ∷ xs) l h a s m next sm env r → length VS ≡ m
-      → Ready xs (down l) (down h) (next + pos l) (next + pos l + 1) (pos l + m + pos (down h) - 1) (next + 2 * pos l + m + 2 - pos h) (next + 2 * pos l + m + 1 - pos h)
+  ready-next : (x : ℕ) (xs : List ℕ) (l h a s m next sm : ℕ) (env r : List Val) (X P S : Val) (VS : List Val) → CellsReady (x ∷ xs) l h a s m next sm env r → length VS ≡ m
+      → CellsReady xs (down l) (down h) (next + pos l) (next + pos l + 1) (pos l + m + pos (down h) - 1) (next + 2 * pos l + m + 2 - pos h) (next + 2 * pos l + m + 1 - pos h)
       (env ++ (lowNot l X ++ (newRow l h X (P ∷ VS) ++ topRest h (top X (P ∷ VS)) S))) (newRow l h X (P ∷ VS))
   ready-next x xs l h a s m next sm env r X P S VS c nv =
       let nl = length-levelVals l h X P S VS in
@@ -281,7 +281,7 @@ module _ {Val : Type 0} (A : Alg Val) where
       mid : (p q z : List Val) (w : ℕ) → w ≡ length env + length p → row (env ++ (p ++ (q ++ z))) w (length q) ≡ q
       mid p q z w e = rw (← append-assoc env p (q ++ z)) (row-mid q (env ++ p) z w (e ∙ sym (length-append env p)))
 
-  pub wiring : (xs : List ℕ) (l h a s m next sm : ℕ) (env r : List Val) → Ready xs l h a s m next sm env r
+  pub wiring : (xs : List ℕ) (l h a s m next sm : ℕ) (env r : List Val) → CellsReady xs l h a s m next sm env r
       → run A env (levels xs l h a s m next sm) ≡ env ++ trace l h r (at A env sm) (map (at A env) xs)
   wiring [] l h a s m next sm env r c = sym (append-nil env)
   wiring (x ∷ xs) l h a s m next sm env r c =

@@ -26,12 +26,12 @@ abbrev pub someCells : ℕ → ℕ → Kept
 someCells d n = record { low = λ i. d + i - n; high = λ i. min i (d - 1); sum = d }
 
 -- where a level's cells stand: cell j at wire `cell j`; the sum's wire; the next wire that is free
-pub record Level : Type 0 where
+pub record CellLevel : Type 0 where
   pub cell : ℕ → ℕ
   pub sum : ℕ
   pub next : ℕ
 
--- Level i from 2, over input xi at wire x and the level b before it.
+-- CellLevel i from 2, over input xi at wire x and the level b before it.
 -- cell(i, 0): NOT xi; AND cell(i-1, 0), that NOT. Others: MUX xi, cell(i-1, j), cell(i-1, j-1), but cell(i, i): AND
 -- cell(i-1, i-1), xi. w is the next wire.
 unfoldable pub cellGates : ℕ → ℕ → (ℕ → ℕ) → ℕ → ℕ → List Gate
@@ -53,18 +53,18 @@ module _ (K : Kept) where
 
   -- after the cells, w being the next wire. At i = d, AND cell(d-1, d-1), xd; for i > d, AND cell(i-1, d-1), xi, then
   -- XOR that, the previous sum
-  unfoldable pub sumGates : ℕ → ℕ → Level → ℕ → List Gate
+  unfoldable pub sumGates : ℕ → ℕ → CellLevel → ℕ → List Gate
   sumGates i x l w =
       choose (ltb i (K .sum)) []
       (And (l .cell (K .sum - 1)) x ∷ choose (eqb i (K .sum)) [] (Xor w (l .sum) ∷ []))
 
-  unfoldable pub levelGates : ℕ → ℕ → Level → List Gate
+  unfoldable pub levelGates : ℕ → ℕ → CellLevel → List Gate
   levelGates i x l =
       let row = rowGates i x (l .cell) (l .next) (K .low i) (keptAt i) in
       row ++ sumGates i x l (l .next + length row)
 
   -- the cells in order, each at its last gate; the sum at the level's last gate
-  unfoldable pub levelAfter : ℕ → ℕ → Level → Level
+  unfoldable pub levelAfter : ℕ → ℕ → CellLevel → CellLevel
   levelAfter i x l =
       let next = l .next + length (levelGates i x l) in
       record {
@@ -77,15 +77,15 @@ module _ (K : Kept) where
   unfoldable pub firstGates : ℕ → List Gate
   firstGates x = choose (eqb (K .low 1) 0) (Not x ∷ []) []
 
-  unfoldable pub firstLevel : ℕ → ℕ → Level
+  unfoldable pub firstLevel : ℕ → ℕ → CellLevel
   firstLevel x next = record { cell = λ j. choose (eqb j 0) next x; sum = x; next = next + notAt 1 }
 
   -- levels i, i + 1, .. for the inputs at these wires
-  unfoldable pub levelsGates : ℕ → List ℕ → Level → List Gate
+  unfoldable pub levelsGates : ℕ → List ℕ → CellLevel → List Gate
   levelsGates i [] l = []
   levelsGates i (x ∷ xs) l = levelGates i x l ++ levelsGates (suc i) xs (levelAfter i x l)
 
-  unfoldable pub levelsEnd : ℕ → List ℕ → Level → Level
+  unfoldable pub levelsEnd : ℕ → List ℕ → CellLevel → CellLevel
   levelsEnd i [] l = l
   levelsEnd i (x ∷ xs) l = levelsEnd (suc i) xs (levelAfter i x l)
 
@@ -94,7 +94,7 @@ module _ (K : Kept) where
   allGates [] next = []
   allGates (x ∷ xs) next = firstGates x ++ levelsGates 2 xs (firstLevel x next)
 
-  unfoldable pub lastLevel : List ℕ → ℕ → Level
+  unfoldable pub lastLevel : List ℕ → ℕ → CellLevel
   lastLevel [] next = record { cell = λ j. 0; sum = 0; next = next }
   lastLevel (x ∷ xs) next = levelsEnd 2 xs (firstLevel x next)
 

@@ -14,10 +14,10 @@ use Rattle.filter.specs.Filter.{tab}
 use Rattle.kreyvium.specs.Kreyvium.{streamOf}
 use Rattle.cipher.specs.Rows.{streamBit}
 use Rattle.cipher.specs.Cipher.{keystreamOf}
-use Rattle.cipher.specs.Inner.{Rows}
+use Rattle.cipher.specs.Inner.{RowsLent}
 
 -- the rows of instances 1 to 5
-pub rows-lent : (inst m : ℕ) (idx wh : List ℕ) → Wired inst m idx wh → (inst ≡ 6 → ⊥) → Rows inst idx wh 1394 m
+pub rows-lent : (inst m : ℕ) (idx wh : List ℕ) → Wired inst m idx wh → (inst ≡ 6 → ⊥) → RowsLent inst idx wh 1394 m
 unfolding whiteBits
 rows-lent inst m idx wh s h =
     let w : length wh ≡ m * rowBits inst = s .whitening ∙ rw (ne-eqb inst 6 h) in

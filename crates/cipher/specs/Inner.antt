@@ -6,7 +6,7 @@ use Rattle.instance.specs.Table.{keyBits, rowBits}
 use Rattle.filter.specs.Filter.{tab}
 
 -- m rows and their whitening are there, each index a place of the key, and x places for a row's variables
-pub record Rows (inst : ℕ) (idx wh : List ℕ) (x m : ℕ) : Type 0 where
+pub record RowsLent (inst : ℕ) (idx wh : List ℕ) (x m : ℕ) : Type 0 where
   pub fits : rowBits inst ≤ x
   pub few : m ≤ 64
   pub indices : m * rowBits inst ≤ length idx

@@ -8,7 +8,7 @@ ghost use Rattle.instance.specs.Table.{keyBits, rowBits};
 ghost use Rattle.instance.specs.Keys.{Keyed, keyIn};
 ghost use Rattle.filter.specs.Instances.{filterOf};
 ghost use Rattle.cipher.specs.Rows.{streamBit};
-ghost use Rattle.cipher.specs.Inner.{Rows};
+ghost use Rattle.cipher.specs.Inner.{RowsLent};
 
 // A byte whose low bit is the key's at place p. No other function here knows how a key is lent.
 fn key_bit(instance: u32, key: &[u8], p: usize) -> u8
@@ -101,7 +101,7 @@ fn put_bits(
     x: &mut [u8],
     out: &mut [u8],
 )
-    requires { ⌜ Rows instance (now indices) (now whitening) (length (now x)) (length (now out)) × (row ≡ rowBits instance) × Keyed instance (now key) ⌝ }
+    requires { ⌜ RowsLent instance (now indices) (now whitening) (length (now x)) (length (now out)) × (row ≡ rowBits instance) × Keyed instance (now key) ⌝ }
     ensures { λ r. ⌜ now (out .exit) ≡ tab (streamBit instance (keyIn instance (now (key .entry))) (now (indices .entry)) (now (whitening .entry))) (length (now (out .entry))) ⌝ }
 {
     let mut at: usize = 0;
@@ -122,7 +122,7 @@ fn put_bits(
 
 // The same, with room for the variables of any instance.
 pub(crate) fn put_rows(instance: u32, key: &[u8], indices: &[u32], whitening: &[u8], out: &mut [u8])
-    requires { ⌜ Rows instance (now indices) (now whitening) 1394 (length (now out)) × Keyed instance (now key) ⌝ }
+    requires { ⌜ RowsLent instance (now indices) (now whitening) 1394 (length (now out)) × Keyed instance (now key) ⌝ }
     ensures { λ r. ⌜ now (out .exit) ≡ tab (streamBit instance (keyIn instance (now (key .entry))) (now (indices .entry)) (now (whitening .entry))) (length (now (out .entry))) ⌝ }
 {
     let mut x = [0u8; 1394];

@@ -12,9 +12,9 @@ use Rattle.answer.specs.Fronts.{left}
 use Rattle.answer.proofs.Every.{row-has, refuse-has, each-has}
 use Rattle.answer.specs.Judges.{lengthAnswer, firstAnswer, roomAnswer}
 use Rattle.instance.specs.Keys.{keyLengthAnswer, keyBitsAnswer}
-use Rattle.daemon.specs.Packed.{packedOf, Small}
+use Rattle.daemon.specs.Packed.{packedOf, Packable}
 use Rattle.sequence.specs.Files.{framesIn, frameAnswer, fileAnswer}
-use Rattle.frames.specs.Frames.{newAnswer, lengthsAnswer, threeBitsAnswer, endAnswer, appendAnswer, lastAnswer, appendAfterAnswer, readAnswer}
+use Rattle.frames.specs.Frames.{newAnswer, lengthsAnswer, threeBitsAnswer, endAnswer, appendAnswer, lastAnswer, appendAfterAnswer, framesReadAnswer}
 
 -- what a call left by an answer, in the words of the answer that was due
 pub left-by : {r due : Answer} (front old : List ℕ) {out : List ℕ} → r ≡ due → out ≡ left r front old → out ≡ left due front old
@@ -58,31 +58,31 @@ module _ (P : Answer → Type 0) (done : P Done) (refused : (n l p : ℕ) → 3 
       row-has P _ _ (row-has P _ _ (lengths-has key rec iv) (one 3 4 _ _ (omega arith) (omega arith) (omega arith)))
       (row-has P _ _ (bits-has key rec iv) (end-has last iv n))
 
-  pub read-has : (key s : List ℕ) (n : ℕ) → P (readAnswer key s n)
-  unfolding readAnswer keyLengthAnswer keyBitsAnswer lengthAnswer bitsAnswer firstAnswer roomAnswer
+  pub read-has : (key s : List ℕ) (n : ℕ) → P (framesReadAnswer key s n)
+  unfolding framesReadAnswer keyLengthAnswer keyBitsAnswer lengthAnswer bitsAnswer firstAnswer roomAnswer
   read-has key s n =
       row-has P _ _ (one 3 1 _ _ (omega arith) (omega arith) (omega arith))
       (row-has P _ _ (one 4 1 _ _ (omega arith) (omega arith) (omega arith))
       (row-has P _ _ (file-has 2 s (omega arith)) (one 8 3 n _ (omega arith) (omega arith) (omega arith))))
 
 -- number and list have room
-small-done : Small Done
+small-done : Packable Done
 small-done = record { number = omega arith; list = omega arith }
 
-small-refused : (n l p : ℕ) → 3 ≤ n → n ≤ 16 → l ≤ 5 → Small (Refused n l p)
+small-refused : (n l p : ℕ) → 3 ≤ n → n ≤ 16 → l ≤ 5 → Packable (Refused n l p)
 small-refused n l p g h k = record { number = omega arith; list = omega arith }
 
-pub append-small : (key rec iv s : List ℕ) (n : ℕ) → Small (appendAnswer key rec iv s n)
-append-small = append-has Small small-done small-refused
+pub append-small : (key rec iv s : List ℕ) (n : ℕ) → Packable (appendAnswer key rec iv s n)
+append-small = append-has Packable small-done small-refused
 
-pub append-after-small : (key rec iv last : List ℕ) (n : ℕ) → Small (appendAfterAnswer key rec iv last n)
-append-after-small = append-after-has Small small-done small-refused
+pub append-after-small : (key rec iv last : List ℕ) (n : ℕ) → Packable (appendAfterAnswer key rec iv last n)
+append-after-small = append-after-has Packable small-done small-refused
 
-pub read-small : (key s : List ℕ) (n : ℕ) → Small (readAnswer key s n)
-read-small = read-has Small small-done small-refused
+pub read-small : (key s : List ℕ) (n : ℕ) → Packable (framesReadAnswer key s n)
+read-small = read-has Packable small-done small-refused
 
-pub check-small : (s : List ℕ) → Small (fileAnswer 1 s)
-check-small s = file-has Small small-done small-refused 1 s (omega arith)
+pub check-small : (s : List ℕ) → Packable (fileAnswer 1 s)
+check-small s = file-has Packable small-done small-refused 1 s (omega arith)
 
 -- 0 is done, and it alone
 abbrev ZeroDone : Answer → Type 0
@@ -98,7 +98,7 @@ append-zero = append-has ZeroDone (λ e. refl) zero-refused
 pub append-after-zero : (key rec iv last : List ℕ) (n : ℕ) → ZeroDone (appendAfterAnswer key rec iv last n)
 append-after-zero = append-after-has ZeroDone (λ e. refl) zero-refused
 
-pub read-zero : (key s : List ℕ) (n : ℕ) → ZeroDone (readAnswer key s n)
+pub read-zero : (key s : List ℕ) (n : ℕ) → ZeroDone (framesReadAnswer key s n)
 read-zero = read-has ZeroDone (λ e. refl) zero-refused
 
 pub check-zero : (s : List ℕ) → ZeroDone (fileAnswer 1 s)

@@ -3,7 +3,7 @@
 use answer::Answer;
 ghost use mathlib.Core.Path.{_≡_};
 ghost use Prim.Native.Nat.{min};
-ghost use Rattle.daemon.specs.Packed.{Small, mostPlace, packedOf};
+ghost use Rattle.daemon.specs.Packed.{Packable, mostPlace, packedOf};
 ghost use Rattle.sequence.specs.Files.{fileAnswer};
 ghost use Rattle.collector.specs.Collector.{AppendedPacked, AppendedAfterPacked, ReadPacked};
 
@@ -19,7 +19,7 @@ fn bounded(place: usize) -> u64
 
 // Number, list and place in one number: 8 bits, 8 bits and 48 bits from the lowest up.
 fn packed(answer: Answer) -> u64
-    requires { ⌜ Small answer ⌝ }
+    requires { ⌜ Packable answer ⌝ }
     ensures { λ r. ⌜ r ≡ packedOf answer ⌝ }
 {
     match answer {

@@ -14,11 +14,11 @@ use Rattle.instance.specs.Keys.{keyLengthAnswer, keyBitsAnswer}
 use Rattle.records.specs.declared.form.Form.{Form}
 use Rattle.records.specs.File.{checkAnswer}
 use Rattle.file.proofs.Round.{check-has}
-use Rattle.daemon.specs.Packed.{mostPlace, packedOf, Small}
+use Rattle.daemon.specs.Packed.{mostPlace, packedOf, Packable}
 use Rattle.daemon.specs.Daemon.{kreyviumAnswer}
 
 -- for code that packs a refusal
-module _ (a : Answer) (s : Small a) (n l p : ℕ) (e : a ≡ Refused n l p) where
+module _ (a : Answer) (s : Packable a) (n l p : ℕ) (e : a ≡ Refused n l p) where
   pub small-number : n < 256
   small-number = subst (λ (x : Answer). numberOf x < 256) e (s .number)
 
@@ -26,7 +26,7 @@ module _ (a : Answer) (s : Small a) (n l p : ℕ) (e : a ≡ Refused n l p) wher
   small-list = subst (λ (x : Answer). listOf x < 256) e (s .list)
 
 -- what the helpers of the header read off an answer
-module _ (a : Answer) (s : Small a) where
+module _ (a : Answer) (s : Packable a) where
   pub number-told : packedOf a % 256 ≡ numberOf a
   unfolding packedOf
   number-told = omega (arith, s .number, s .list)
@@ -57,18 +57,18 @@ module _ (P : Answer → Type 0) (done : P Done) (refused : (n l p : ℕ) → 2 
       (row-has P _ _ (refuse-three 4 _ _ _ _ _ _ (omega arith) (omega arith)) (refuse-one 8 4 n _ (omega arith) (omega arith) (omega arith))))
 
 -- number and list have room
-small-done : Small Done
+small-done : Packable Done
 small-done = record { number = omega arith; list = omega arith }
 
-small-refused : (n l p : ℕ) → n < 256 → l < 256 → Small (Refused n l p)
+small-refused : (n l p : ℕ) → n < 256 → l < 256 → Packable (Refused n l p)
 small-refused n l p h k = record { number = h; list = k }
 
-pub kreyvium-small : (m : ℕ) (key rec iv : List ℕ) (n : ℕ) → Small (kreyviumAnswer m key rec iv n)
-kreyvium-small = kreyvium-has Small small-done (λ n l p g h k. small-refused n l p (omega arith) (omega arith))
+pub kreyvium-small : (m : ℕ) (key rec iv : List ℕ) (n : ℕ) → Packable (kreyviumAnswer m key rec iv n)
+kreyvium-small = kreyvium-has Packable small-done (λ n l p g h k. small-refused n l p (omega arith) (omega arith))
 
-pub check-small : (form : Form) (s : List ℕ) → Small (checkAnswer form s)
+pub check-small : (form : Form) (s : List ℕ) → Packable (checkAnswer form s)
 check-small =
-    check-has Small small-done (λ p. small-refused 9 1 p (omega arith) (omega arith))
+    check-has Packable small-done (λ p. small-refused 9 1 p (omega arith) (omega arith))
     (λ p. small-refused 12 1 p (omega arith) (omega arith))
 
 -- 0 is done, and it alone

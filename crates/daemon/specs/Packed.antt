@@ -12,6 +12,6 @@ unfoldable pub packedOf : Answer → ℕ
 packedOf a = numberOf a + 256 * listOf a + 65536 * min (placeOf a) mostPlace
 
 -- number and list have room in 8 bits
-pub record Small (a : Answer) : Type 0 where
+pub record Packable (a : Answer) : Type 0 where
   pub number : numberOf a < 256
   pub list : listOf a < 256

@@ -5,7 +5,7 @@ ghost use mathlib.Core.Path.{_≡_};
 ghost use Prim.Native.Nat.{min};
 ghost use Rattle.records.specs.declared.form.Form.{Form};
 ghost use Rattle.records.specs.File.{checkAnswer};
-ghost use Rattle.daemon.specs.Packed.{Small, mostPlace, packedOf};
+ghost use Rattle.daemon.specs.Packed.{Packable, mostPlace, packedOf};
 ghost use Rattle.daemon.specs.Daemon.{Enciphered};
 ghost use Rattle.daemon.specs.Inner.{withoutIndices};
 
@@ -21,7 +21,7 @@ fn bounded(place: usize) -> u64
 
 // Number, list and place in one number: 8 bits, 8 bits and 48 bits from the lowest up.
 fn packed(answer: Answer) -> u64
-    requires { ⌜ Small answer ⌝ }
+    requires { ⌜ Packable answer ⌝ }
     ensures { λ r. ⌜ r ≡ packedOf answer ⌝ }
 {
     match answer {

@@ -12,7 +12,7 @@ use Rattle.netlist.specs.Gates.{gateWords}
 use Rattle.netlist.specs.Put.{putGates}
 use Rattle.netlist.proofs.Puts.{Awaits, put-over}
 use Rattle.wiring.specs.Decipher.{nots, vars}
-use Rattle.emit.specs.InnerRows.{wireOf, flips}
+use Rattle.emit.specs.InnerRows.{variableWire, flips}
 
 nots-one : (p w : ℕ) (ps ws : List ℕ) → nots (p ∷ ps) (w ∷ ws) ≡ nots (p ∷ []) (w ∷ []) ++ nots ps ws
 unfolding nots
@@ -24,8 +24,8 @@ unfolding nots flips
 nots-count p zero = refl
 nots-count p (suc w) = refl
 
-vars-one : (p w : ℕ) (ps ws : List ℕ) (next : ℕ) → vars next (p ∷ ps) (w ∷ ws) ≡ wireOf p w next ∷ vars (next + flips w) ps ws
-unfolding vars wireOf flips
+vars-one : (p w : ℕ) (ps ws : List ℕ) (next : ℕ) → vars next (p ∷ ps) (w ∷ ws) ≡ variableWire p w next ∷ vars (next + flips w) ps ws
+unfolding vars variableWire flips
 vars-one p zero ps ws next = let e : next ≡ next + 0 = omega arith in ap (λ (n : ℕ). p ∷ vars n ps ws) e
 vars-one p (suc w) ps ws next = ap (λ (n : ℕ). next ∷ vars n ps ws) (sym (add-one next))
 
@@ -94,7 +94,7 @@ module _ (row ws out₀ : List ℕ) (at next : ℕ) where
     going-room = omega (arith, g .room, g .index, g .outLong)
 
     pub going-step : (out′ : List ℕ) (more a : ℕ) → j < length row → out′ ≡ sets out i (gateWords (Not (getD row j 0))) → more ≡ flips (getD ws j 0)
-        → a ≡ wireOf (getD row j 0) (getD ws j 0) wire
+        → a ≡ variableWire (getD row j 0) (getD ws j 0) wire
         → Going row ws out₀ at next out′ (set xs j a) (i + 4 * more) (wire + more) (j + 1)
     going-step out′ more a h e m w =
         let one = nots (getD row j 0 ∷ []) (getD ws j 0 ∷ []) in
@@ -141,13 +141,13 @@ module _ (row ws out₀ : List ℕ) (at next : ℕ) where
         }
 
 -- one place: its wire and its NOT, by its whitening
-pub wire-plain : (p w n : ℕ) → w ≡ 0 → p ≡ wireOf p w n
-unfolding wireOf
+pub wire-plain : (p w n : ℕ) → w ≡ 0 → p ≡ variableWire p w n
+unfolding variableWire
 wire-plain p zero n e = refl
 wire-plain p (suc w) n e = absurd (omega arith)
 
-pub wire-not : (p w n : ℕ) → (w ≡ 0 → ⊥) → n ≡ wireOf p w n
-unfolding wireOf
+pub wire-not : (p w n : ℕ) → (w ≡ 0 → ⊥) → n ≡ variableWire p w n
+unfolding variableWire
 wire-not p zero n e = absurd (e refl)
 wire-not p (suc w) n e = refl
 

@@ -9,9 +9,9 @@ use Rattle.wiring.specs.Exp.{emit, product, chain}
 use Rattle.wiring.specs.Rows.{Rows}
 
 -- one variable's wire, and how many NOTs it takes
-unfoldable pub wireOf : ℕ → ℕ → ℕ → ℕ
-wireOf p zero next = p
-wireOf p (suc w) next = next
+unfoldable pub variableWire : ℕ → ℕ → ℕ → ℕ
+variableWire p zero next = p
+variableWire p (suc w) next = next
 
 unfoldable pub flips : ℕ → ℕ
 flips zero = 0

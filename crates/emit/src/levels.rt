@@ -13,7 +13,7 @@ ghost use Rattle.emit.specs.InnerLevels.{levelGates, afterLevel, firstLe
 // Where a run of levels stands. Cell 0 is kept at `lows` more levels. The last AND of a level is a cell at
 // `highs` - 1 more; then it is the sum, and after that it joins the sum. The row before has its cells at wires
 // `first`, `second`, `second` + 1, ..; `more` are there after the first.
-pub struct Level {
+pub struct LevelRow {
     pub at: usize,
     pub lows: u32,
     pub highs: u32,
@@ -79,7 +79,7 @@ fn put_sum(out: &mut [u32], at: usize, highs: u32, last: u32, sum: u32)
 }
 
 // Where the levels stand after one more.
-fn after_level(r: Level) -> Level
+fn after_level(r: LevelRow) -> LevelRow
     requires { ⌜ StepFits r ⌝ }
     ensures { λ q. ⌜ q ≡ afterLevel r ⌝ }
 {
@@ -90,7 +90,7 @@ fn after_level(r: Level) -> Level
     let xor = 1 - pos_of(highs);
     let fewer = down_of(highs);
     let size = 2 * low + more + 1 + xor;
-    Level {
+    LevelRow {
         at: r.at + 4 * (size as usize),
         lows: down_of(r.lows),
         highs: fewer,
@@ -103,7 +103,7 @@ fn after_level(r: Level) -> Level
 }
 
 // The gates of a level over input wire x, and where the levels stand after it.
-fn put_level(out: &mut [u32], r: Level, x: u32) -> Level
+fn put_level(out: &mut [u32], r: LevelRow, x: u32) -> LevelRow
     requires { ⌜ LevelFits r (length (now out)) ⌝ }
     ensures { λ q. ⌜ q ≡ afterLevel r ⌝ }
     ensures { λ q. ⌜ now (out .exit) ≡ putGates (now (out .entry)) (r .at) (levelGates r x) ⌝ }
@@ -128,14 +128,14 @@ fn first_wire(lows: u32, x: u32, next: u32) -> u32
 }
 
 // Where the levels stand after level 1, over input wire x.
-fn first_level(at: usize, next: u32, lows: u32, highs: u32, x: u32) -> Level
+fn first_level(at: usize, next: u32, lows: u32, highs: u32, x: u32) -> LevelRow
     requires { ⌜ (next ≤ 1000000) × (at + 4 * pos lows < 18446744073709551616) ⌝ }
     ensures { λ r. ⌜ r ≡ firstLevel at next lows highs x ⌝ }
 {
     let low = pos_of(lows);
     let fewer = down_of(highs);
     let first = first_wire(lows, x, next);
-    Level {
+    LevelRow {
         at: at + 4 * (low as usize),
         lows: down_of(lows),
         highs: fewer,

@@ -29,7 +29,7 @@ ghost use Rattle.instance.specs.Table.{keyBits, rowBits};
 ghost use Rattle.filter.specs.Filter.{ones};
 ghost use Rattle.filter.specs.Instances.{degreesOf};
 ghost use Rattle.wiring.specs.Rows.{Rows};
-ghost use Rattle.emit.specs.InnerRows.{wireOf, flips, term, Wiring};
+ghost use Rattle.emit.specs.InnerRows.{variableWire, flips, term, Wiring};
 
 // A NOT of wire p, and whether it counts: where whitening w asks for one. One that does not count is stored all the
 // same, and the next gate goes over it: w is as good as random, and a branch on it would be guessed wrong.
@@ -44,7 +44,7 @@ fn put_not(out: &mut [u32], at: usize, p: u32, w: u8) -> u32
 
 // The wire of a variable: the key's, or its NOT's.
 fn pick_wire(p: u32, w: u8, next: u32) -> u32
-    ensures { λ r. ⌜ r ≡ wireOf p w next ⌝ }
+    ensures { λ r. ⌜ r ≡ variableWire p w next ⌝ }
 {
     if w == 0 { p } else { next }
 }

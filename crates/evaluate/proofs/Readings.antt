@@ -7,7 +7,7 @@ use lib.ListN.{getD}
 use lib.Dec.{eqb}
 use Rattle.answer.specs.Choose.{choose}
 use Rattle.netlist.specs.Gates.{takenOf, gateOf}
-use Rattle.netlist.specs.Net.{Each, step, valAlg}
+use Rattle.netlist.specs.Net.{EachOperand, step, valAlg}
 use Rattle.evaluate.specs.Inner.{truthAt}
 
 -- what holds of each of eight triples holds of all bits
@@ -41,7 +41,7 @@ bit : (x : ℕ) → x ≤ 1 → x % 2 ≡ x
 bit x h = omega arith
 
 -- the words k, a, b, c of a gate whose used operands carry bits in w
-pub truth-right : (k a b c : ℕ) (w : List ℕ) → Each (λ i. getD w i 0 ≤ 1) (gateOf k a b c)
+pub truth-right : (k a b c : ℕ) (w : List ℕ) → EachOperand (λ i. getD w i 0 ≤ 1) (gateOf k a b c)
     → truthAt (gateOf k a b c) (getD w a 0) (getD w b 0) (getD w c 0) ≡ step valAlg w (gateOf k a b c)
 unfolding truthAt gateOf takenOf
 truth-right zero a b c w u = reads 0 (λ x y z. 0) _ _ _ refl refl refl refl refl refl refl refl

@@ -8,7 +8,7 @@ use Rattle.answer.specs.Fronts.{over}
 use Rattle.netlist.specs.Net.{Uses, at, run, valAlg}
 use Rattle.netlist.specs.declared.gate.Gate.{Gate}
 use Rattle.netlist.specs.declared.gate.Gate.the-variants.{Zero, One, Not, Xor, And, Mux}
-use Rattle.netlist.specs.declared.gate.Taken.the-variants.{Valid}
+use Rattle.netlist.specs.declared.gate.Taken.the-variants.{Known}
 use Rattle.netlist.specs.Words.{headerWords, gatePlace, takenAt, gateAt, gatesAt}
 
 -- a gate's values: bit x + 2y + 4z is the value where a, b and c carry x, y and z
@@ -36,7 +36,7 @@ outputsPut net vals start n outs = over (map (at valAlg vals) (take n (drop star
 -- gate's own; the values have room, and bits at the inputs.
 pub record GatesFit (net : List ℕ) (I G : ℕ) (vals : List ℕ) : Type 0 where
   pub words : gatePlace G ≤ length net
-  pub known : (g : ℕ) → g < G → takenAt net (gatePlace g) ≡ Valid (gateAt net (gatePlace g))
+  pub known : (g : ℕ) → g < G → takenAt net (gatePlace g) ≡ Known (gateAt net (gatePlace g))
   pub uses : (g : ℕ) → g < G → Uses (I + g) (gateAt net (gatePlace g))
   pub low : (g : ℕ) → g < G → (getD net (gatePlace g + 1) 0 ≤ I + g) × (getD net (gatePlace g + 2) 0 ≤ I + g) × (getD net (gatePlace g + 3) 0 ≤ I + g)
   pub room : I + G ≤ length vals

@@ -59,7 +59,7 @@ fn put_gates(net: &[u32], values: &mut [u8], inputs: usize, gates: usize)
         let b = net[at + 2];
         let c = net[at + 3];
         let t = netlist::gate::take_apart(net[at], a, b, c);
-        let Taken::Valid(gate) = t else {
+        let Taken::Known(gate) = t else {
             return;
         };
         let i = a as usize;

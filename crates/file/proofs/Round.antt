@@ -17,7 +17,7 @@ use Rattle.answer.proofs.Judges.{done-room}
 use Rattle.answer.proofs.Over.{take-over}
 use Rattle.netlist.specs.declared.counts.Counts.{Counts}
 use Rattle.netlist.specs.declared.gate.Taken.{Taken}
-use Rattle.netlist.specs.declared.gate.Taken.the-variants.{Valid, Unknown}
+use Rattle.netlist.specs.declared.gate.Taken.the-variants.{Known, Unknown}
 use Rattle.netlist.specs.Gates.{takenOf}
 use Rattle.netlist.specs.Words.{headerWords, countsOf, gatesOf, outputsOf, wordCount}
 use Rattle.netlist.specs.Check.{operandAnswer, takenAnswer, wordsAnswer, countsAnswer, wiresAnswer, netAnswer}
@@ -56,7 +56,7 @@ module _ (P : Answer → Type 0) (d : P Done) (x9 : (p : ℕ) → P (Refused 9 1
   taken-has : (t : Taken) (a b c w p : ℕ) → P (takenAnswer t a b c w 1 p)
   unfolding takenAnswer operandAnswer
   taken-has Unknown a b c w p = x9 p
-  taken-has (Valid g) a b c w p = row-has P _ _ (refuse9 _ _) (row-has P _ _ (refuse9 _ _) (refuse9 _ _))
+  taken-has (Known g) a b c w p = row-has P _ _ (refuse9 _ _) (row-has P _ _ (refuse9 _ _) (refuse9 _ _))
 
   words-has : (k a b c w p : ℕ) → P (wordsAnswer k a b c w 1 p)
   unfolding wordsAnswer

@@ -12,7 +12,7 @@ use Rattle.netlist.specs.Gates.{takenOf}
 use Rattle.netlist.specs.Check.{operandAnswer, takenAnswer, wordsAnswer, netAnswer}
 use Rattle.records.specs.declared.form.Form.the-variants.{Full}
 use Rattle.records.specs.Bytes.{wordAt, joined}
-use Rattle.records.specs.File.{markOf, widthOf, sizeAt, startOf, operandAt, fourIn, outWord, wordsIn, begins, recordAnswer, gateRecord, outRecord, outsAnswer, recordsAnswer, headAnswer, bodyAnswer, readAnswer, checkAnswer}
+use Rattle.records.specs.File.{markOf, widthOf, sizeAt, startOf, operandAt, fourIn, outWord, wordsIn, recordBegins, recordAnswer, gateRecord, outRecord, outsAnswer, recordsAnswer, headAnswer, bodyAnswer, readAnswer, checkAnswer}
 use Rattle.file.specs.Bytes.{little}
 use Rattle.file.specs.File.{wordsBytes, headBytes, outBytes, fileOf, writeAnswer, ReadAs, WrittenAs}
 
@@ -37,7 +37,7 @@ unfolding _▹_ refuse each netAnswer little joined markOf wordsBytes headBytes 
 pass-writes = refl
 
 pass-reads : readAnswer Full passFile 4 ≡ Done
-unfolding _▹_ refuse each wordAt joined markOf begins sizeAt startOf outWord wordsIn recordAnswer gateRecord outRecord outsAnswer recordsAnswer headAnswer roomAnswer bodyAnswer readAnswer
+unfolding _▹_ refuse each wordAt joined markOf recordBegins sizeAt startOf outWord wordsIn recordAnswer gateRecord outRecord outsAnswer recordsAnswer headAnswer roomAnswer bodyAnswer readAnswer
 pass-reads = refl
 
 -- the calls, lent just the room that they need
@@ -55,21 +55,21 @@ pass-read out {r} a e =
 
 -- a byte left over after 14
 pub rest : checkAnswer Full (0x4E ∷ 0x48 ∷ 1 ∷ 0 ∷ 0 ∷ 0 ∷ 0 ∷ 0 ∷ 0 ∷ 0 ∷ 0 ∷ 0 ∷ 0 ∷ 0 ∷ 9 ∷ []) ≡ Refused 12 1 14
-unfolding _▹_ refuse each wordAt joined markOf begins sizeAt startOf wordsIn recordAnswer outsAnswer recordsAnswer headAnswer bodyAnswer checkAnswer
+unfolding _▹_ refuse each wordAt joined markOf recordBegins sizeAt startOf wordsIn recordAnswer outsAnswer recordsAnswer headAnswer bodyAnswer checkAnswer
 rest = refl
 
 -- a header cut by one byte; another mark
 pub cut : checkAnswer Full (0x4E ∷ 0x48 ∷ 1 ∷ 0 ∷ 0 ∷ 0 ∷ 0 ∷ 0 ∷ 0 ∷ 0 ∷ 0 ∷ 0 ∷ 0 ∷ []) ≡ Refused 12 1 0
-unfolding _▹_ refuse markOf begins recordAnswer headAnswer checkAnswer
+unfolding _▹_ refuse markOf recordBegins recordAnswer headAnswer checkAnswer
 cut = refl
 
 pub other-mark : checkAnswer Full (0x4E ∷ 0x32 ∷ 1 ∷ 0 ∷ 0 ∷ 0 ∷ 0 ∷ 0 ∷ 0 ∷ 0 ∷ 0 ∷ 0 ∷ 0 ∷ 0 ∷ []) ≡ Refused 12 1 0
-unfolding _▹_ refuse markOf begins recordAnswer headAnswer checkAnswer
+unfolding _▹_ refuse markOf recordBegins recordAnswer headAnswer checkAnswer
 other-mark = refl
 
 -- NOT of its own wire: 9 at word 4, its operand's
 pub own-wire : checkAnswer Full
     (0x4E ∷ 0x48 ∷ 1 ∷ 0 ∷ 0 ∷ 0 ∷ 1 ∷ 0 ∷ 0 ∷ 0 ∷ 0 ∷ 0 ∷ 0 ∷ 0
     ∷ 0x4E ∷ 0x47 ∷ 2 ∷ 1 ∷ 0 ∷ 0 ∷ 0 ∷ 0 ∷ 0 ∷ 0 ∷ 0 ∷ 0 ∷ 0 ∷ 0 ∷ 0 ∷ []) ≡ Refused 9 1 4
-unfolding _▹_ refuse each takenOf operandAnswer takenAnswer wordsAnswer wordAt joined markOf widthOf begins sizeAt startOf operandAt fourIn wordsIn recordAnswer gateRecord outsAnswer recordsAnswer headAnswer bodyAnswer checkAnswer
+unfolding _▹_ refuse each takenOf operandAnswer takenAnswer wordsAnswer wordAt joined markOf widthOf recordBegins sizeAt startOf operandAt fourIn wordsIn recordAnswer gateRecord outsAnswer recordsAnswer headAnswer bodyAnswer checkAnswer
 own-wire = refl

@@ -10,7 +10,7 @@ use lib.ListN.{length, getD, take, drop}
 use lib.Seq.{drop-cons, drop-drop}
 use Rattle.filter.specs.Filter.{tab, prod, sumOf}
 use Rattle.filter.specs.Papers.{triangleSize}
-use Rattle.filter.specs.Instances.{upTo, copies}
+use Rattle.filter.specs.Instances.{degreesTo, copies}
 use Rattle.filter.proofs.Sums.{regroup, sumOf-bit, xor-bit, Sum, sum-start, sum-step}
 use Rattle.filter.proofs.Tab.{tab-length, tab-at}
 use Rattle.filter.proofs.Published.{total, triangle-total, triangle-holds}
@@ -38,15 +38,15 @@ module _ (ds xs : List ℕ) where
       (sum-step ds xs acc at j d t (v .0) l (omega arith) h, omega (arith, total-next j d l e))
 
 -- the degrees of a triangle are a table
-upTo-tab : (k : ℕ) → upTo k ≡ tab suc k
+upTo-tab : (k : ℕ) → degreesTo k ≡ tab suc k
 unfolding tab
 upTo-tab zero = refl
 upTo-tab (suc k) = ap (λ (l : List ℕ). l ++ suc k ∷ []) (upTo-tab k)
 
-pub upTo-length : (k : ℕ) → length (upTo k) ≡ k
+pub upTo-length : (k : ℕ) → length (degreesTo k) ≡ k
 upTo-length k = ap length (upTo-tab k) ∙ tab-length suc k
 
-pub upTo-at : (k j : ℕ) → j < k → getD (upTo k) j 0 ≡ j + 1
+pub upTo-at : (k j : ℕ) → j < k → getD (degreesTo k) j 0 ≡ j + 1
 upTo-at k j h = ap (λ (l : List ℕ). getD l j 0) (upTo-tab k) ∙ tab-at suc k j h ∙ sym (add-one j)
 
 -- Parts end to end.
@@ -66,7 +66,7 @@ join ds es xs {a} {b} {at} {ys} t e p q =
     ∙ rw (p, f) (sym (sumOf-append ds es xs))
 
 -- No triangles, or such as have no monomials.
-none : (left k : ℕ) (xs : List ℕ) → left * triangleSize k ≡ 0 → sumOf (copies left (upTo k)) xs ≡ 0
+none : (left k : ℕ) (xs : List ℕ) → left * triangleSize k ≡ 0 → sumOf (copies left (degreesTo k)) xs ≡ 0
 unfolding sumOf
 none zero k xs e = refl
 none (suc left) zero xs e = none left zero xs (omega arith)
@@ -77,27 +77,27 @@ module _ (n k : ℕ) (xs : List ℕ) where
   abbrev pub Triangles : ℕ → ℕ → Type 0
   Triangles acc at =
       (left : ℕ) × (acc < 2) × (at + left * triangleSize k ≡ n * triangleSize k)
-      × ((acc + sumOf (copies left (upTo k)) (drop at xs)) % 2 ≡ sumOf (copies n (upTo k)) xs)
+      × ((acc + sumOf (copies left (degreesTo k)) (drop at xs)) % 2 ≡ sumOf (copies n (degreesTo k)) xs)
 
   pub triangles-start : Triangles 0 0
-  triangles-start = (n, omega arith, omega arith, omega (arith, sumOf-bit (copies n (upTo k)) xs))
+  triangles-start = (n, omega arith, omega arith, omega (arith, sumOf-bit (copies n (degreesTo k)) xs))
 
   pub triangles-room : (acc at : ℕ) → Triangles acc at → at < n * triangleSize k → at + triangleSize k ≤ n * triangleSize k
   triangles-room acc at (zero, b, p, e) l = absurd (omega arith)
   triangles-room acc at (suc left, b, p, e) l = omega (arith, suc-mul left (triangleSize k))
 
-  pub triangles-step : (acc at t : ℕ) {ys : List ℕ} → Triangles acc at → at < n * triangleSize k → ys ≡ drop at xs → t ≡ sumOf (upTo k) ys
+  pub triangles-step : (acc at t : ℕ) {ys : List ℕ} → Triangles acc at → at < n * triangleSize k → ys ≡ drop at xs → t ≡ sumOf (degreesTo k) ys
       → Triangles (bitXor acc t) (at + triangleSize k)
   triangles-step acc at t (zero, b, p, e) l y h = absurd (omega arith)
   triangles-step acc at t (suc left, b, p, e) l y h =
-      let rest : ℕ = sumOf (copies left (upTo k)) (drop (at + triangleSize k) xs) in
-      let f : t ≡ sumOf (upTo k) (drop at xs) = h ∙ ap (sumOf (upTo k)) y in
-      let s : sumOf (copies (suc left) (upTo k)) (drop at xs) ≡ (t + rest) % 2 =
-      sumOf-append (upTo k) (copies left (upTo k)) (drop at xs)
-      ∙ ap (λ (y : List ℕ). (sumOf (upTo k) (drop at xs) + sumOf (copies left (upTo k)) y) % 2) (drop-drop (total (upTo k)) at xs ∙ ap (λ (m : ℕ). drop (at + m) xs) (triangle-total k))
+      let rest : ℕ = sumOf (copies left (degreesTo k)) (drop (at + triangleSize k) xs) in
+      let f : t ≡ sumOf (degreesTo k) (drop at xs) = h ∙ ap (sumOf (degreesTo k)) y in
+      let s : sumOf (copies (suc left) (degreesTo k)) (drop at xs) ≡ (t + rest) % 2 =
+      sumOf-append (degreesTo k) (copies left (degreesTo k)) (drop at xs)
+      ∙ ap (λ (y : List ℕ). (sumOf (degreesTo k) (drop at xs) + sumOf (copies left (degreesTo k)) y) % 2) (drop-drop (total (degreesTo k)) at xs ∙ ap (λ (m : ℕ). drop (at + m) xs) (triangle-total k))
       ∙ ap (λ (y : ℕ). (y + rest) % 2) (sym f) in
-      rw (xor-bit acc t b (omega (arith, sumOf-bit (upTo k) (drop at xs))))
+      rw (xor-bit acc t b (omega (arith, sumOf-bit (degreesTo k) (drop at xs))))
       (left, omega arith, omega (arith, suc-mul left (triangleSize k)), sym (regroup acc t rest) ∙ ap (λ (y : ℕ). (acc + y) % 2) (sym s) ∙ e)
 
-  pub triangles-end : (acc at : ℕ) → Triangles acc at → n * triangleSize k ≤ at → acc ≡ sumOf (copies n (upTo k)) xs
+  pub triangles-end : (acc at : ℕ) → Triangles acc at → n * triangleSize k ≤ at → acc ≡ sumOf (copies n (degreesTo k)) xs
   triangles-end acc at (left, b, p, e) l = omega (arith, none left k (drop at xs) (omega arith))

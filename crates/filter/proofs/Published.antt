@@ -10,7 +10,7 @@ use lib.Seq.{take-suc, take-all, drop-drop, drop-at, getD-drop}
 use Rattle.instance.specs.Table.{sizesOf, rowBits}
 use Rattle.filter.specs.Filter.{tab, prod, sumOf, threshold}
 use Rattle.filter.specs.Papers.{sum, product, triangleSize, triangleStart, triangular, flip, directSum, vector1216, vector1280, published}
-use Rattle.filter.specs.Instances.{upTo, copies, flipDegrees, degreesOf, tailOf, filterOf}
+use Rattle.filter.specs.Instances.{degreesTo, copies, flipDegrees, degreesOf, tailOf, filterOf}
 use Rattle.filter.proofs.Sums.{regroup, sumOf-bit}
 use Rattle.filter.proofs.Tab.{tab-length, tab-at, tab-add}
 
@@ -93,14 +93,14 @@ sumAt-replicate x (suc m) d at =
     ∙ ap₂ (λ (s t : ℕ). (s + product d (λ j. x (at + t + j))) % 2) (sumAt-replicate x m d at) (total-replicate m d)
 
 -- The triangle of degree k: its degrees use k · (k + 1) / 2 variables, and so many stand before the monomial of degree k + 1.
-total-upTo : (k : ℕ) → k * suc k ≡ 2 * total (upTo k)
+total-upTo : (k : ℕ) → k * suc k ≡ 2 * total (degreesTo k)
 unfolding total
 total-upTo zero = refl
 total-upTo (suc k) =
     mul-suc (suc k) (suc k)
-    ∙ omega (arith, total-upTo k, suc-mul k (suc k), total-append (upTo k) (suc k ∷ []))
+    ∙ omega (arith, total-upTo k, suc-mul k (suc k), total-append (degreesTo k) (suc k ∷ []))
 
-pub triangle-total : (k : ℕ) → total (upTo k) ≡ triangleSize k
+pub triangle-total : (k : ℕ) → total (degreesTo k) ≡ triangleSize k
 triangle-total k = omega (arith, total-upTo k, ap (λ (n : ℕ). k * n) (add-one k))
 
 -- its longest monomial fits into it
@@ -108,20 +108,20 @@ pub triangle-holds : (k : ℕ) → k ≤ triangleSize k
 unfolding total
 triangle-holds k = omega (arith, longest k, triangle-total k)
   where
-    longest : (k : ℕ) → k ≤ total (upTo k)
+    longest : (k : ℕ) → k ≤ total (degreesTo k)
     longest zero = omega arith
-    longest (suc k) = omega (arith, total-append (upTo k) (suc k ∷ []))
+    longest (suc k) = omega (arith, total-append (degreesTo k) (suc k ∷ []))
 
-triangle-start : (k : ℕ) → total (upTo k) ≡ triangleStart (suc k)
+triangle-start : (k : ℕ) → total (degreesTo k) ≡ triangleStart (suc k)
 triangle-start k =
     let e : suc k - 1 ≡ k = omega arith in
     omega (arith, total-upTo k, ap (λ (n : ℕ). suc k * n) e, mul-comm (suc k) k)
 
-sumAt-upTo : (x : ℕ → ℕ) (k at : ℕ) → sumAt (upTo k) at x ≡ triangular k (λ i. x (at + i))
+sumAt-upTo : (x : ℕ → ℕ) (k at : ℕ) → sumAt (degreesTo k) at x ≡ triangular k (λ i. x (at + i))
 unfolding sumAt sum
 sumAt-upTo x zero at = refl
 sumAt-upTo x (suc k) at =
-    sumAt-snoc x (upTo k) (suc k) at
+    sumAt-snoc x (degreesTo k) (suc k) at
     ∙ ap₂ (λ (s t : ℕ). (s + t) % 2) (sumAt-upTo x k at)
     (ap (product (suc k)) (pointwise (λ j. ap (λ (t : ℕ). x (at + t + j)) (triangle-start k) ∙ ap x (add-assoc at (triangleStart (suc k)) j))))
 
@@ -135,15 +135,15 @@ unfolding total
 total-copies zero s = omega arith
 total-copies (suc n) s = omega (arith, total-append s (copies n s), total-copies n s, suc-mul n (total s))
 
-sumAt-copies : (x : ℕ → ℕ) (nb k at : ℕ) → sumAt (copies nb (upTo k)) at x ≡ sum nb (λ t. triangular k (λ i. x (at + t * triangleSize k + i)))
+sumAt-copies : (x : ℕ → ℕ) (nb k at : ℕ) → sumAt (copies nb (degreesTo k)) at x ≡ sum nb (λ t. triangular k (λ i. x (at + t * triangleSize k + i)))
 unfolding sumAt sum
 sumAt-copies x zero k at = refl
 sumAt-copies x (suc nb) k at =
-    let e : total (copies nb (upTo k)) ≡ nb * triangleSize k = total-copies nb (upTo k) ∙ ap (λ (t : ℕ). nb * t) (triangle-total k) in
-    ap (λ (l : List ℕ). sumAt l at x) (copies-snoc nb (upTo k))
-    ∙ sumAt-append x (copies nb (upTo k)) (upTo k) at
+    let e : total (copies nb (degreesTo k)) ≡ nb * triangleSize k = total-copies nb (degreesTo k) ∙ ap (λ (t : ℕ). nb * t) (triangle-total k) in
+    ap (λ (l : List ℕ). sumAt l at x) (copies-snoc nb (degreesTo k))
+    ∙ sumAt-append x (copies nb (degreesTo k)) (degreesTo k) at
     ∙ ap₂ (λ (s t : ℕ). (s + t) % 2) (sumAt-copies x nb k at)
-    (sumAt-upTo x k (at + total (copies nb (upTo k))) ∙ ap (λ (t : ℕ). triangular k (λ i. x (at + t + i))) e)
+    (sumAt-upTo x k (at + total (copies nb (degreesTo k))) ∙ ap (λ (t : ℕ). triangular k (λ i. x (at + t + i))) e)
 
 -- The linear and the quadratic part.
 sumAt-ones : (x : ℕ → ℕ) (n : ℕ) → sumAt (replicate n 1) 0 x ≡ sum n x
@@ -180,20 +180,20 @@ flip-at x n1 pairs nb k =
     let e : 0 + total a ≡ n1 = omega (arith, before-pairs n1) in
     let f : 0 + total (a ++ b) ≡ n1 + 2 * pairs = omega (arith, before-triangles n1 pairs) in
     let h : pairs ≡ 2 * pairs / 2 = omega arith in
-    sumAt-append x (a ++ b) (copies nb (upTo k)) 0
+    sumAt-append x (a ++ b) (copies nb (degreesTo k)) 0
     ∙ ap₂ (λ (s t : ℕ). (s + t) % 2)
     (sumAt-append x a b 0
     ∙ ap₂ (λ (s t : ℕ). (s + t) % 2) (sumAt-ones x n1)
     (ap (λ (t : ℕ). sumAt b t x) e ∙ sumAt-pairs x pairs n1 ∙ ap (λ (m : ℕ). sum m (λ i. x (n1 + 2 * i) * x (n1 + (2 * i + 1)))) h))
-    (ap (λ (t : ℕ). sumAt (copies nb (upTo k)) t x) f ∙ sumAt-copies x nb k (n1 + 2 * pairs))
+    (ap (λ (t : ℕ). sumAt (copies nb (degreesTo k)) t x) f ∙ sumAt-copies x nb k (n1 + 2 * pairs))
     ∙ mod-add-mod _ 2 _
 
 total-flip : (n1 pairs nb k : ℕ) → total (flipDegrees n1 pairs nb k) ≡ n1 + 2 * pairs + nb * triangleSize k
 total-flip n1 pairs nb k =
-    total-append (replicate n1 1 ++ replicate pairs 2) (copies nb (upTo k))
+    total-append (replicate n1 1 ++ replicate pairs 2) (copies nb (degreesTo k))
     ∙ ap₂ (λ (s t : ℕ). s + t)
     (before-triangles n1 pairs)
-    (total-copies nb (upTo k) ∙ ap (λ (t : ℕ). nb * t) (triangle-total k))
+    (total-copies nb (degreesTo k) ∙ ap (λ (t : ℕ). nb * t) (triangle-total k))
 
 flip-is : (n1 pairs nb k : ℕ) (x : ℕ → ℕ) (n : ℕ) → n1 + 2 * pairs + nb * triangleSize k ≤ n
     → sumOf (flipDegrees n1 pairs nb k) (tab x n) ≡ flip n1 (2 * pairs) nb k x

@@ -8,9 +8,9 @@ use Rattle.instance.specs.Table.{rowBits}
 use Rattle.filter.specs.Filter.{var, tab, sumOf, threshold}
 
 -- the degrees 1, 2, .. k of a triangle; n copies of a list end to end
-abbrev pub upTo : ℕ → List ℕ
-upTo zero = []
-upTo (suc k) = upTo k ++ suc k ∷ []
+abbrev pub degreesTo : ℕ → List ℕ
+degreesTo zero = []
+degreesTo (suc k) = degreesTo k ++ suc k ∷ []
 
 abbrev pub copies : ℕ → List ℕ → List ℕ
 copies zero s = []
@@ -18,7 +18,7 @@ copies (suc n) s = s ++ copies n s
 
 -- the linear ones, then half the quadratic number of pairs, then each triangle
 abbrev pub flipDegrees : ℕ → ℕ → ℕ → ℕ → List ℕ
-flipDegrees linear pairs triangles k = replicate linear 1 ++ replicate pairs 2 ++ copies triangles (upTo k)
+flipDegrees linear pairs triangles k = replicate linear 1 ++ replicate pairs 2 ++ copies triangles (degreesTo k)
 
 unfoldable pub degreesOf : ℕ → List ℕ
 degreesOf zero = []

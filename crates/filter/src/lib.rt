@@ -13,7 +13,7 @@ ghost use lib.ListN.{length, take, drop, replicate};
 ghost use Rattle.instance.specs.Table.{rowBits};
 ghost use Rattle.filter.specs.Filter.{prod, sumOf, ones};
 ghost use Rattle.filter.specs.Papers.{triangleSize};
-ghost use Rattle.filter.specs.Instances.{upTo, copies, flipDegrees, degreesOf, tailOf, filterOf};
+ghost use Rattle.filter.specs.Instances.{degreesTo, copies, flipDegrees, degreesOf, tailOf, filterOf};
 
 // The product of all bits, as a bit.
 fn product(x: &[u8]) -> u8
@@ -88,7 +88,7 @@ fn sum_equal(degree: usize, many: usize, x: &[u8]) -> u8
 // The sum of monomials of degree 1, 2, .. k.
 fn triangle(k: usize, x: &[u8]) -> u8
     requires { ⌜ triangleSize k ≤ length (now x) ⌝ }
-    ensures { λ r. ⌜ r ≡ sumOf (upTo k) (now (x .entry)) ⌝ }
+    ensures { λ r. ⌜ r ≡ sumOf (degreesTo k) (now (x .entry)) ⌝ }
 {
     let mut sum: u8 = 0;
     let mut at: usize = 0;
@@ -106,7 +106,7 @@ fn triangle(k: usize, x: &[u8]) -> u8
 // it knows k, and then not lay out for each k.
 fn triangles(k: usize, x: &[u8]) -> u8
     requires { ⌜ 8 * triangleSize k ≤ length (now x) ⌝ }
-    ensures { λ r. ⌜ r ≡ sumOf (copies 8 (upTo k)) (now (x .entry)) ⌝ }
+    ensures { λ r. ⌜ r ≡ sumOf (copies 8 (degreesTo k)) (now (x .entry)) ⌝ }
 {
     let size = k * (k + 1) / 2;
     let end = 8 * size;

@@ -23,10 +23,10 @@ use Rattle.answer.specs.Judges.{lengthAnswer, firstAnswer, roomAnswer}
 use Rattle.answer.proofs.Judges.{done-room}
 use Rattle.instance.specs.Keys.{Keyed, keyIn, keyLengthAnswer, keyBitsAnswer}
 use Rattle.instance.proofs.Keys.{keyed-length, keyed-bits}
-use Rattle.port.specs.Bytes.{digits, unpacked}
-use Rattle.sequence.specs.Files.{frameSize, start, framesIn, begins, ivNumber, rises, frameAnswer, fileAnswer}
+use Rattle.port.specs.Bytes.{valueAt, unpacked}
+use Rattle.sequence.specs.Files.{frameSize, start, framesIn, frameBegins, ivNumber, rises, frameAnswer, fileAnswer}
 use Rattle.sequence.proofs.Judged.{begins-marked, begins-there, frame-done, file-done, file-begins, file-rises}
-use Rattle.frames.specs.Frames.{frameOf, ivValue, above, recordsIn, newAnswer, lengthsAnswer, threeBitsAnswer, endAnswer, appendAnswer, lastAnswer, appendAfterAnswer, readAnswer, Appended, AppendedAfter, FramesRead, Rising, fileOf, endToEnd, lastOf, onList, sixteenAt}
+use Rattle.frames.specs.Frames.{frameOf, ivValue, above, recordsIn, newAnswer, lengthsAnswer, threeBitsAnswer, endAnswer, appendAnswer, lastAnswer, appendAfterAnswer, framesReadAnswer, Appended, AppendedAfter, FramesRead, Rising, framesOf, endToEnd, lastOf, onList, sixteenAt}
 use Rattle.frames.specs.Inner.{Whole}
 use Rattle.port.proofs.Digits.{digits-agree, digits-unpacked}
 use Rattle.frames.proofs.Judged.{append-lent, lent-append, lent-read, file-whole, last-none, last-whole}
@@ -99,34 +99,34 @@ module _ (key : List ℕ) (rec iv : ℕ → List ℕ) where
 
   -- the file of the first k of them: k frames in order, the last with the last IV
   record Filed (k : ℕ) : Type 0 where
-    file : fileAnswer 4 (fileOf bits rec iv k) ≡ Done
-    frames : framesIn (fileOf bits rec iv k) ≡ k
-    records : recordsIn bits (fileOf bits rec iv k) k ≡ endToEnd rec k
-    last : (j : ℕ) → k ≡ suc j → ivNumber (fileOf bits rec iv k) j ≡ ivValue (iv j)
+    file : fileAnswer 4 (framesOf bits rec iv k) ≡ Done
+    frames : framesIn (framesOf bits rec iv k) ≡ k
+    records : recordsIn bits (framesOf bits rec iv k) k ≡ endToEnd rec k
+    last : (j : ℕ) → k ≡ suc j → ivNumber (framesOf bits rec iv k) j ≡ ivValue (iv j)
 
   filed-none : Filed 0
-  unfolding fileOf endToEnd recordsIn fileAnswer each
+  unfolding framesOf endToEnd recordsIn fileAnswer each
   filed-none = record { file = refl; frames = refl; records = refl; last = λ j e. absurd (omega arith) }
 
   module _ (n : ℕ) (g : Rising rec iv n) where
     -- so the next IV is above the last one
-    above-last : (k : ℕ) → k < n → Filed k → above (fileOf bits rec iv k) k (iv k) ≡ true
+    above-last : (k : ℕ) → k < n → Filed k → above (framesOf bits rec iv k) k (iv k) ≡ true
     unfolding above
     above-last zero h f = refl
     above-last (suc k) h f =
-        lt-ltb (ivNumber (fileOf bits rec iv (suc k)) k) (ivValue (iv (suc k))) (rw (f .last k refl) (g .rise k h))
+        lt-ltb (ivNumber (framesOf bits rec iv (suc k)) k) (ivValue (iv (suc k))) (rw (f .last k refl) (g .rise k h))
 
-    next-done : (k : ℕ) → k < n → Filed k → newAnswer 4 (fileOf bits rec iv k) (iv k) ≡ Done
+    next-done : (k : ℕ) → k < n → Filed k → newAnswer 4 (framesOf bits rec iv k) (iv k) ≡ Done
     unfolding newAnswer
     next-done k h f =
-        refuse-not 16 4 _ (ap not (ap (λ (i : ℕ). above (fileOf bits rec iv k) i (iv k)) (f .frames) ∙ above-last k h f))
+        refuse-not 16 4 _ (ap not (ap (λ (i : ℕ). above (framesOf bits rec iv k) i (iv k)) (f .frames) ∙ above-last k h f))
 
     filed : (k : ℕ) → k ≤ n → Filed k
-    unfolding fileOf endToEnd
+    unfolding framesOf endToEnd
     filed zero h = filed-none
     filed (suc k) h =
         let f = filed k (omega arith) in
-        let s = fileOf bits rec iv k in
+        let s = framesOf bits rec iv k in
         let w = file-whole 4 s (f .file) in
         let e : framesIn (s ++ frameOf bits (rec k) (iv k)) ≡ suc k = more-frames s bits (rec k) (iv k) w ∙ ap (λ (i : ℕ). i + 1) (f .frames) ∙ add-one k in
         record {
@@ -141,10 +141,10 @@ module _ (key : List ℕ) (rec iv : ℕ → List ℕ) where
         }
 
     -- Each of them is accepted behind those before it.
-    pub all-appended : Keyed 6 key → (k : ℕ) → k < n → (room : ℕ) → frameSize ≤ room → appendAnswer key (rec k) (iv k) (fileOf bits rec iv k) room ≡ Done
+    pub all-appended : Keyed 6 key → (k : ℕ) → k < n → (room : ℕ) → frameSize ≤ room → appendAnswer key (rec k) (iv k) (framesOf bits rec iv k) room ≡ Done
     all-appended b k h room l =
         let f = filed k (omega arith) in
-        lent-append key (rec k) (iv k) (fileOf bits rec iv k) room
+        lent-append key (rec k) (iv k) (framesOf bits rec iv k) room
         record {
           keyed = b;
           recordBits = g .record-bits k h;
@@ -160,14 +160,14 @@ module _ (key : List ℕ) (rec iv : ℕ → List ℕ) where
         (called : (k : ℕ) → k < n → Appended key (rec k) (iv k) (file k) (room k) (r k) (room′ k))
         (space : (k : ℕ) → k < n → frameSize ≤ length (room k))
         (put : (k : ℕ) → k < n → file (suc k) ≡ file k ++ take frameSize (room′ k)) where
-      accepted : (k : ℕ) → k < n → file k ≡ fileOf bits rec iv k → r k ≡ Done
+      accepted : (k : ℕ) → k < n → file k ≡ framesOf bits rec iv k → r k ≡ Done
       accepted k h e =
           called k h .answered
           ∙ ap (λ (s : List ℕ). appendAnswer key (rec k) (iv k) s (length (room k))) e
           ∙ all-appended b k h (length (room k)) (space k h)
 
-      grown : (k : ℕ) → k ≤ n → file k ≡ fileOf bits rec iv k
-      unfolding fileOf
+      grown : (k : ℕ) → k ≤ n → file k ≡ framesOf bits rec iv k
+      unfolding framesOf
       grown zero h = empty
       grown (suc k) h =
           let e = grown k (omega arith) in
@@ -181,7 +181,7 @@ module _ (key : List ℕ) (rec iv : ℕ → List ℕ) where
           → (q ≡ Done) × (out′ ≡ over (endToEnd rec n) out)
       appends-then-read out {q} {out′} x h =
           let f = filed n (omega arith) in
-          let s = fileOf bits rec iv n in
+          let s = framesOf bits rec iv n in
           let y : FramesRead key s out q out′ = rw (grown n (omega arith)) at x in
           let two = relisted 4 2 s (f .file) in
           let d : q ≡ Done = y .answered ∙ lent-read key s (length out) record {
@@ -206,8 +206,8 @@ pub no-iv-twice : (l : ℕ) (s : List ℕ) → ((i : ℕ) → getD s i 0 < 256) 
     → unpacked s (start i + 2) 128 ≡ unpacked s (start j + 2) 128 → ⊥
 unfolding ivNumber
 no-iv-twice l s b f i j h g e =
-    let n : (k : ℕ) → ivNumber s k ≡ digits 2 (unpacked s (start k + 2) 128) 0 128 = λ k. sym (digits-unpacked s (start k + 2) 16 (λ q m. b (start k + 2 + q))) in
-    let q : ivNumber s i ≡ ivNumber s j = n i ∙ ap (λ (t : List ℕ). digits 2 t 0 128) e ∙ sym (n j) in
+    let n : (k : ℕ) → ivNumber s k ≡ valueAt 2 (unpacked s (start k + 2) 128) 0 128 = λ k. sym (digits-unpacked s (start k + 2) 16 (λ q m. b (start k + 2 + q))) in
+    let q : ivNumber s i ≡ ivNumber s j = n i ∙ ap (λ (t : List ℕ). valueAt 2 t 0 128) e ∙ sym (n j) in
     omega (arith, ivs-rise l s f i j h g)
 
 -- ---- checking and reading
@@ -218,8 +218,8 @@ end-done Done = refl
 end-done (Refused n l p) = refl
 
 -- `check` answers as `read` does with key and room in order, but for the list's number.
-pub check-as-read : (key s : List ℕ) (n : ℕ) → Keyed 6 key → 64 * framesIn s ≤ n → readAnswer key s n ≡ onList 2 (fileAnswer 1 s)
-unfolding readAnswer
+pub check-as-read : (key s : List ℕ) (n : ℕ) → Keyed 6 key → 64 * framesIn s ≤ n → framesReadAnswer key s n ≡ onList 2 (fileAnswer 1 s)
+unfolding framesReadAnswer
 check-as-read key s n b h =
     passed (keyed-length 1 6 key b) (passed (keyed-bits 1 6 key b) (ap (λ (a : Answer). fileAnswer 2 s ▹ a) (done-room 3 n (64 * framesIn s) h) ∙ end-done (fileAnswer 2 s) ∙ sym (file-onList 2 1 s)))
   where
@@ -257,7 +257,7 @@ module _ (s : List ℕ) (l : ℕ) (f : fileAnswer l s ≡ Done) where
   whole : Whole (framesIn s) s
   whole = file-whole l s f
 
-  -- where the last frame begins
+  -- where the last frame frameBegins
   abbrev from : ℕ
   from = length s - frameSize
 
@@ -286,7 +286,7 @@ module _ (s : List ℕ) (l : ℕ) (f : fileAnswer l s ≡ Done) where
         digits-agree 256 (lastOf s) s (start 0 + 2) (start k + 2) 16
         (λ i h. last-at (2 + i) ∙ ap (λ (j : ℕ). getD s j 0) (omega (arith, from-start)))
 
-    last-begins : begins (lastOf s) (start 0) ≡ true
+    last-begins : frameBegins (lastOf s) (start 0) ≡ true
     last-begins =
         let m = begins-marked s (start k) (file-begins l s f k (omega arith)) in
         begins-there (lastOf s) (start 0) (omega (arith, one-frame))

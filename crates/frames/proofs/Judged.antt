@@ -17,11 +17,11 @@ use Rattle.answer.specs.Judges.{lengthAnswer, roomAnswer}
 use Rattle.answer.proofs.Judges.{length-done, room-done, done-length, done-room, bits-within, bits-done, done-bits}
 use Rattle.instance.specs.Keys.{Keyed}
 use Rattle.instance.proofs.Keys.{keyed-length, keyed-bits, done-keyed}
-use Rattle.port.specs.Bytes.{digits, packed, BitList}
+use Rattle.port.specs.Bytes.{valueAt, packed, BitList}
 use Rattle.port.proofs.Digits.{digits-split, digits-packed}
-use Rattle.sequence.specs.Files.{frameSize, start, framesIn, wordAt, ivNumber, fileAnswer}
+use Rattle.sequence.specs.Files.{frameSize, start, framesIn, ivWordAt, ivNumber, fileAnswer}
 use Rattle.sequence.proofs.Judged.{begins-within, word-there, iv-read, file-begins}
-use Rattle.frames.specs.Frames.{ivValue, above, newAnswer, lengthsAnswer, threeBitsAnswer, endAnswer, appendAnswer, lastAnswer, appendAfterAnswer, readAnswer}
+use Rattle.frames.specs.Frames.{ivValue, above, newAnswer, lengthsAnswer, threeBitsAnswer, endAnswer, appendAnswer, lastAnswer, appendAfterAnswer, framesReadAnswer}
 use Rattle.frames.specs.Inner.{Whole}
 use Rattle.frames.specs.Lent.{AppendLent}
 
@@ -38,7 +38,7 @@ file-whole l s e =
 -- ---- a new frame
 
 -- an IV of 128 bits is two words
-pub packed-words : (v : List ℕ) → digits 256 (packed 16 v) 0 16 ≡ digits 2 v 0 64 * 2 ^ 64 + digits 2 v 64 64
+pub packed-words : (v : List ℕ) → valueAt 256 (packed 16 v) 0 16 ≡ valueAt 2 v 0 64 * 2 ^ 64 + valueAt 2 v 64 64
 packed-words v = sym (digits-packed 16 v 16 (omega arith)) ∙ digits-split 2 v 0 64 64
 
 pub new-first : (l : ℕ) (s iv : List ℕ) → length s ≡ 0 → Done ≡ newAnswer l s iv
@@ -46,8 +46,8 @@ unfolding newAnswer above refuse
 new-first l s iv e = rw e
 
 module _ (l : ℕ) (s iv : List ℕ) (w : Whole (framesIn s) s) (n : length s ≡ 0 → ⊥) {p q x y : ℕ} {b : Bool}
-    (c : p ≡ wordAt s (length s - frameSize + 2)) (d : q ≡ wordAt s (length s - frameSize + 10))
-    (e : x ≡ digits 2 iv 0 64) (f : y ≡ digits 2 iv 64 64) (h : b ≡ ltb (p * 2 ^ 64 + q) (x * 2 ^ 64 + y)) where
+    (c : p ≡ ivWordAt s (length s - frameSize + 2)) (d : q ≡ ivWordAt s (length s - frameSize + 10))
+    (e : x ≡ valueAt 2 iv 0 64) (f : y ≡ valueAt 2 iv 64 64) (h : b ≡ ltb (p * 2 ^ 64 + q) (x * 2 ^ 64 + y)) where
   above-is : above s (framesIn s) iv ≡ b
   unfolding above ivValue
   above-is =
@@ -168,8 +168,8 @@ pub record ReadLent (key s : List ℕ) (n : ℕ) : Type 0 where
   pub whole : Whole (framesIn s) s
   pub room : 64 * framesIn s ≤ n
 
-pub read-lent : (key s : List ℕ) (n : ℕ) → readAnswer key s n ≡ Done → ReadLent key s n
-unfolding readAnswer
+pub read-lent : (key s : List ℕ) (n : ℕ) → framesReadAnswer key s n ≡ Done → ReadLent key s n
+unfolding framesReadAnswer
 read-lent key s n e =
     let t = then-done _ _ e in
     record {
@@ -179,7 +179,7 @@ read-lent key s n e =
       room = room-done 3 n (64 * framesIn s) (three-of _ _ _ t);
     }
 
-pub lent-read : (key s : List ℕ) (n : ℕ) → ReadLent key s n → readAnswer key s n ≡ Done
-unfolding readAnswer
+pub lent-read : (key s : List ℕ) (n : ℕ) → ReadLent key s n → framesReadAnswer key s n ≡ Done
+unfolding framesReadAnswer
 lent-read key s n a =
     both (keyed-length 1 6 key (a .keyed)) (both (keyed-bits 1 6 key (a .keyed)) (both (a .file) (done-room 3 n (64 * framesIn s) (a .room))))

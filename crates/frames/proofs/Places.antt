@@ -16,8 +16,8 @@ use Rattle.answer.proofs.Over.{over-at}
 use Rattle.filter.proofs.Tab.{tab-at, tab-same}
 use Rattle.kreyvium.specs.Words.{bit}
 use Rattle.cipher.specs.Cipher.{encipherOf}
-use Rattle.port.specs.Bytes.{digits, packed, unpacked, BitList}
-use Rattle.sequence.specs.Files.{byteP, byteT, frameSize, start, framesIn, begins, ivNumber, rises, fileAnswer}
+use Rattle.port.specs.Bytes.{valueAt, packed, unpacked, BitList}
+use Rattle.sequence.specs.Files.{byteP, byteT, frameSize, start, framesIn, frameBegins, ivNumber, rises, fileAnswer}
 use Rattle.sequence.proofs.Judged.{begins-marked, begins-there, frame-done, file-done, file-begins, file-rises}
 use Rattle.frames.specs.Frames.{frameOf, ivValue, above, recordIn, recordsIn, newAnswer}
 use Rattle.frames.specs.Inner.{Whole}
@@ -39,7 +39,7 @@ unpacked-packed n b h =
     let k : i < 8 * n = omega (arith, unpacked-length (packed n b) 0 (8 * n)) in
     let e : 8 * (i / 8) + i % 8 ≡ i = omega arith in
     tab-at _ (8 * n) i k
-    ∙ ap (λ (x : ℕ). bit x (7 - i % 8)) (ap (λ (j : ℕ). getD (packed n b) j 0) (zero-add (i / 8)) ∙ tab-at (λ j. digits 2 b (8 * j) 8) n (i / 8) (omega arith))
+    ∙ ap (λ (x : ℕ). bit x (7 - i % 8)) (ap (λ (j : ℕ). getD (packed n b) j 0) (zero-add (i / 8)) ∙ tab-at (λ j. valueAt 2 b (8 * j) 8) n (i / 8) (omega arith))
     ∙ binary-bit b (8 * (i / 8)) 8 (i % 8) (λ j g. h .bit (8 * (i / 8) + j)) (omega arith)
     ∙ ap (λ (j : ℕ). getD b j 0) e)
 
@@ -142,7 +142,7 @@ module _ (s bits rec iv : List ℕ) (w : Whole (framesIn s) s) where
       olds (suc n) h = ap₂ _++_ (olds n (omega arith)) (old-record n (omega arith))
 
   -- it is a file again, if its IV is above the last one's
-  old-begins : (k : ℕ) → k < framesIn s → begins s (start k) ≡ true → begins more (start k) ≡ true
+  old-begins : (k : ℕ) → k < framesIn s → frameBegins s (start k) ≡ true → frameBegins more (start k) ≡ true
   old-begins k h e =
       let m = begins-marked s (start k) e in
       let f = frameOf bits rec iv in
@@ -150,7 +150,7 @@ module _ (s bits rec iv : List ℕ) (w : Whole (framesIn s) s) where
       (List·getD-append s f 0 (start k) (omega (arith, w .size)) ∙ m .0)
       (List·getD-append s f 0 (start k + 1) (omega (arith, w .size)) ∙ m .1)
 
-  new-begins : begins more (start (framesIn s)) ≡ true
+  new-begins : frameBegins more (start (framesIn s)) ≡ true
   unfolding frameOf
   new-begins =
       let p = start (framesIn s) in

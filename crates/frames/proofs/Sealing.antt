@@ -16,7 +16,7 @@ use Rattle.kreyvium.proofs.Bits.{bit-small}
 use Rattle.kreyvium.specs.Kreyvium.{streamOf}
 use Rattle.kreyvium.proofs.Streams.{stream-length}
 use Rattle.cipher.specs.Cipher.{keystreamOf, encipherOf}
-use Rattle.port.specs.Bytes.{digits, packed, unpacked, BitList}
+use Rattle.port.specs.Bytes.{valueAt, packed, unpacked, BitList}
 use Rattle.sequence.specs.Files.{start}
 use Rattle.frames.specs.Frames.{frameOf, recordIn, recordsIn}
 use Rattle.frames.specs.Inner.{markBytes}
@@ -54,7 +54,7 @@ sealed-back bits rec iv r =
 
 -- ---- writing
 
-packed-part : (b : List ℕ) (p : ℕ) → tab (λ k. digits 2 b (p + 8 * k) 8) 8 ≡ packed 8 (take 64 (drop p b))
+packed-part : (b : List ℕ) (p : ℕ) → tab (λ k. valueAt 2 b (p + 8 * k) 8) 8 ≡ packed 8 (take 64 (drop p b))
 unfolding packed
 packed-part b p =
     tab-same _ _ 8
@@ -65,9 +65,9 @@ packed-part b p =
 packed-halves : (b : List ℕ) → packed 16 b ≡ packed 8 (take 64 (drop 0 b)) ++ packed 8 (take 64 (drop 64 b))
 unfolding packed
 packed-halves b =
-    halves ∙ ap₂ _++_ (tab-same _ _ 8 (λ k l. ap (λ (j : ℕ). digits 2 b j 8) (omega arith)) ∙ packed-part b 0) (tab-same _ _ 8 (λ k l. ap (λ (j : ℕ). digits 2 b j 8) (omega arith)) ∙ packed-part b 64)
+    halves ∙ ap₂ _++_ (tab-same _ _ 8 (λ k l. ap (λ (j : ℕ). valueAt 2 b j 8) (omega arith)) ∙ packed-part b 0) (tab-same _ _ 8 (λ k l. ap (λ (j : ℕ). valueAt 2 b j 8) (omega arith)) ∙ packed-part b 64)
   where
-    halves : packed 16 b ≡ tab (λ k. digits 2 b (8 * k) 8) 8 ++ tab (λ k. digits 2 b (8 * (8 + k)) 8) 8
+    halves : packed 16 b ≡ tab (λ k. valueAt 2 b (8 * k) 8) 8 ++ tab (λ k. valueAt 2 b (8 * (8 + k)) 8) 8
     halves = tab-add _ 8 8
 
 pub frame-written : (bits rec iv : List ℕ) (v0 v1 x : ℕ) → length rec ≡ 64 → tops 64 v0 ≡ take 64 (drop 0 iv) → tops 64 v1 ≡ take 64 (drop 64 iv)

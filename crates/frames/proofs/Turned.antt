@@ -12,19 +12,19 @@ use Rattle.filter.proofs.Tab.{tab-same}
 use Rattle.kreyvium.specs.Words.{bit, tops}
 use Rattle.kreyvium.proofs.Bits.{length-tops, tops-at, bit-xor}
 use Rattle.cipher.proofs.Block.{tab-tops}
-use Rattle.port.specs.Bytes.{digits, unpacked}
+use Rattle.port.specs.Bytes.{valueAt, unpacked}
 use Rattle.port.proofs.Digits.{binary-bit, byte-bit, digits-field}
-use Rattle.sequence.specs.Files.{wordAt}
+use Rattle.sequence.specs.Files.{ivWordAt}
 use Rattle.sequence.proofs.Judged.{word-there}
 
 -- read from eight bytes
-pub bytes-tops : (s : List ℕ) (p x : ℕ) → x ≡ wordAt s p → p + 8 ≤ length s → ((k : ℕ) → k < 8 → getD s (p + k) 0 < 256) → tops 64 x ≡ unpacked s p 64
+pub bytes-tops : (s : List ℕ) (p x : ℕ) → x ≡ ivWordAt s p → p + 8 ≤ length s → ((k : ℕ) → k < 8 → getD s (p + k) 0 < 256) → tops 64 x ≡ unpacked s p 64
 unfolding unpacked
 bytes-tops s p x e h g =
     sym (tab-tops 64 x) ∙ tab-same _ _ 64 (λ i l. ap (λ (y : ℕ). bit y (63 - i)) (e ∙ word-there s p h) ∙ byte-bit s p 8 i g l)
 
 -- read from 64 bits
-pub bits-tops : (s : List ℕ) (p x : ℕ) → x ≡ digits 2 s p 64 → ((i : ℕ) → getD s i 0 ≤ 1) → p + 64 ≤ length s → tops 64 x ≡ take 64 (drop p s)
+pub bits-tops : (s : List ℕ) (p x : ℕ) → x ≡ valueAt 2 s p 64 → ((i : ℕ) → getD s i 0 ≤ 1) → p + 64 ≤ length s → tops 64 x ≡ take 64 (drop p s)
 bits-tops s p x e h l =
     let n : length (take 64 (drop p s)) ≡ 64 = length-take-le 64 (drop p s) (omega (arith, length-drop p s)) in
     ext-getD 0 (tops 64 x) (take 64 (drop p s)) (length-tops 64 x ∙ sym n)
@@ -36,7 +36,7 @@ bits-tops s p x e h l =
     ∙ sym (getD-take 64 (drop p s) i 0 k ∙ getD-drop p s i 0))
 
 -- byte i of a word
-pub word-byte : (x i : ℕ) → i < 8 → x / 2 ^ (56 - 8 * i) % 256 ≡ digits 2 (tops 64 x) (8 * i) 8
+pub word-byte : (x i : ℕ) → i < 8 → x / 2 ^ (56 - 8 * i) % 256 ≡ valueAt 2 (tops 64 x) (8 * i) 8
 word-byte x i h =
     sym (digits-field (tops 64 x) (8 * i) 8 x (56 - 8 * i) (λ j l. tops-at 64 x (8 * i + j) (omega arith) ∙ ap (bit x) (omega arith)))
 

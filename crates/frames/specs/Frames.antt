@@ -14,7 +14,7 @@ use Rattle.answer.specs.Fronts.{left}
 use Rattle.answer.specs.Judges.{lengthAnswer, roomAnswer}
 use Rattle.instance.specs.Keys.{keyIn, keyLengthAnswer, keyBitsAnswer}
 use Rattle.cipher.specs.Cipher.{encipherOf}
-use Rattle.port.specs.Bytes.{digits, packed, unpacked, BitList}
+use Rattle.port.specs.Bytes.{valueAt, packed, unpacked, BitList}
 use Rattle.sequence.specs.Files.{byteP, byteT, frameSize, start, framesIn, ivNumber, fileAnswer}
 
 -- ---- a frame: the mark "PT", 16 bytes of IV (IV0 is the high bit of the first byte), 8 bytes of record enciphered with Kreyvium
@@ -24,7 +24,7 @@ frameOf bits rec iv = (byteP ∷ byteT ∷ packed 16 iv) ++ packed 8 (encipherOf
 
 -- its IV of 128 bits, read as a number, high byte first
 unfoldable pub ivValue : List ℕ → ℕ
-ivValue iv = digits 256 (packed 16 iv) 0 16
+ivValue iv = valueAt 256 (packed 16 iv) 0 16
 
 -- the IV of a new frame behind n frames is above the last one's
 unfoldable pub above : List ℕ → ℕ → List ℕ → Bool
@@ -73,8 +73,8 @@ appendAfterAnswer key rec iv last n =
     (lengthsAnswer key rec iv ▹ lastAnswer 4 (length last)) ▹ threeBitsAnswer key rec iv ▹ endAnswer last iv n
 
 -- lists: key, file, records, for which n places are lent
-unfoldable pub readAnswer : List ℕ → List ℕ → ℕ → Answer
-readAnswer key s n = keyLengthAnswer 1 6 (length key) ▹ keyBitsAnswer 1 6 key ▹ fileAnswer 2 s ▹ roomAnswer 3 n (64 * framesIn s)
+unfoldable pub framesReadAnswer : List ℕ → List ℕ → ℕ → Answer
+framesReadAnswer key s n = keyLengthAnswer 1 6 (length key) ▹ keyBitsAnswer 1 6 key ▹ fileAnswer 2 s ▹ roomAnswer 3 n (64 * framesIn s)
 
 -- ---- what a call answers and leaves in its result, where a key is lent
 
@@ -87,7 +87,7 @@ pub record AppendedAfter (key rec iv last out : List ℕ) (r : Answer) (out′ :
   pub written : out′ ≡ left r (frameOf (keyIn 6 key) rec iv) out
 
 pub record FramesRead (key s out : List ℕ) (r : Answer) (out′ : List ℕ) : Type 0 where
-  pub answered : r ≡ readAnswer key s (length out)
+  pub answered : r ≡ framesReadAnswer key s (length out)
   pub written : out′ ≡ left r (recordsIn (keyIn 6 key) s (framesIn s)) out
 
 -- ---- for what is said of several calls
@@ -99,9 +99,9 @@ pub record Rising (rec iv : ℕ → List ℕ) (n : ℕ) : Type 0 where
   pub rise : (k : ℕ) → suc k < n → ivValue (iv k) < ivValue (iv (suc k))
 
 -- the file of n frames appended one after another under a key of these bits, from nothing
-unfoldable pub fileOf : List ℕ → (ℕ → List ℕ) → (ℕ → List ℕ) → ℕ → List ℕ
-fileOf bits rec iv zero = []
-fileOf bits rec iv (suc n) = fileOf bits rec iv n ++ frameOf bits (rec n) (iv n)
+unfoldable pub framesOf : List ℕ → (ℕ → List ℕ) → (ℕ → List ℕ) → ℕ → List ℕ
+framesOf bits rec iv zero = []
+framesOf bits rec iv (suc n) = framesOf bits rec iv n ++ frameOf bits (rec n) (iv n)
 
 -- n records end to end
 unfoldable pub endToEnd : (ℕ → List ℕ) → ℕ → List ℕ

@@ -7,7 +7,7 @@ ghost use lib.Seq.{sets};
 ghost use Rattle.answer.specs.Fronts.{over};
 ghost use Rattle.kreyvium.specs.Words.{bit, bits, tops};
 ghost use Rattle.cipher.specs.Inner.{apart, lowFour};
-ghost use Rattle.port.specs.Bytes.{digits, packed};
+ghost use Rattle.port.specs.Bytes.{valueAt, packed};
 ghost use Rattle.frames.specs.Inner.{exchangedBy};
 
 fn wide(x: u8) -> u64
@@ -48,7 +48,7 @@ fn four(s: &[u8], at: usize) -> u64
 // places 0, 9, 18 and 27, and takes byte k to place 27 - k. No two bits meet.
 fn eight(s: &[u8], at: usize) -> u64
     requires { ⌜ (at + 8 ≤ length (now s)) × ((i : ℕ) → getD (now s) i 0 ≤ 1) ⌝ }
-    ensures { λ r. ⌜ (r ≡ digits 2 (now (s .entry)) at 8) × (r < 256) ⌝ }
+    ensures { λ r. ⌜ (r ≡ valueAt 2 (now (s .entry)) at 8) × (r < 256) ⌝ }
 {
     let y = four(s, at) * 16 + four(s, at + 4);
     ((y * 134480385) >> 24) % 256
@@ -57,7 +57,7 @@ fn eight(s: &[u8], at: usize) -> u64
 // The word that 64 bits from a place on make, eight at a time.
 pub(crate) fn bit_word(s: &[u8], at: usize) -> u64
     requires { ⌜ (at + 64 ≤ length (now s)) × ((i : ℕ) → getD (now s) i 0 ≤ 1) ⌝ }
-    ensures { λ r. ⌜ (r ≡ digits 2 (now (s .entry)) at 64) × (tops 64 r ≡ take 64 (drop at (now (s .entry)))) ⌝ }
+    ensures { λ r. ⌜ (r ≡ valueAt 2 (now (s .entry)) at 64) × (tops 64 r ≡ take 64 (drop at (now (s .entry)))) ⌝ }
 {
     let mut x: u64 = 0;
     let mut i: usize = 0;

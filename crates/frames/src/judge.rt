@@ -11,7 +11,7 @@ ghost use Prim.Native.Nat.{_+_, _*_, _/_, _%_};
 ghost use Rattle.answer.specs.Judges.{roomAnswer};
 ghost use Rattle.port.specs.Bytes.{BitList};
 ghost use Rattle.sequence.specs.Files.{frameSize, framesIn};
-ghost use Rattle.frames.specs.Frames.{newAnswer, lengthsAnswer, threeBitsAnswer, endAnswer, appendAnswer, lastAnswer, appendAfterAnswer, readAnswer};
+ghost use Rattle.frames.specs.Frames.{newAnswer, lengthsAnswer, threeBitsAnswer, endAnswer, appendAnswer, lastAnswer, appendAfterAnswer, framesReadAnswer};
 ghost use Rattle.frames.specs.Inner.{Whole};
 
 // 16 of a new frame behind a file of whole frames.
@@ -132,7 +132,7 @@ fn records_room(room: usize, len: usize) -> Answer
 }
 
 pub(crate) fn read(key: &[u8], file: &[u8], room: usize) -> Answer
-    ensures { λ r. ⌜ r ≡ readAnswer (now (key .entry)) (now (file .entry)) room ⌝ }
+    ensures { λ r. ⌜ r ≡ framesReadAnswer (now (key .entry)) (now (file .entry)) room ⌝ }
 {
     let r = instance::key_length(6, key.len(), 1);
     let Answer::Done = r else {

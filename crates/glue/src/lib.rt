@@ -63,7 +63,7 @@ fn put_gates(second: &[u32], gates: usize, outs: &[u32], base: u32, out: &mut [u
         let j = second[at + 2];
         let k = second[at + 3];
         let t = netlist::gate::take_apart(kind, i, j, k);
-        let Taken::Valid(gate) = t else {
+        let Taken::Known(gate) = t else {
             return;
         };
         let used = netlist::gate::used(gate);

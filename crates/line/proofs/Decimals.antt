@@ -6,19 +6,19 @@ use native.Mathlib.Decide.{decLe}
 use native.Mathlib.Omega.{arith}
 use borrow.Author.Tests.{lt-ltb, le-ltb}
 use lib.ListN.{length, length-append}
-use Rattle.line.specs.Decimal.{digits, decimal}
+use Rattle.line.specs.Decimal.{decimalDigits, decimal}
 
-digits-low : (k n : ℕ) → n < 10 → digits k n ≡ (48 + n) ∷ []
-unfolding digits
+digits-low : (k n : ℕ) → n < 10 → decimalDigits k n ≡ (48 + n) ∷ []
+unfolding decimalDigits
 digits-low zero n h = refl
 digits-low (suc k) n h = rw (lt-ltb n 10 h)
 
-digits-high : (k n : ℕ) → 10 ≤ n → digits (suc k) n ≡ digits k (n / 10) ++ (48 + n % 10) ∷ []
-unfolding digits
+digits-high : (k n : ℕ) → 10 ≤ n → decimalDigits (suc k) n ≡ decimalDigits k (n / 10) ++ (48 + n % 10) ∷ []
+unfolding decimalDigits
 digits-high k n h = rw (le-ltb n 10 h)
 
 -- more room than is needed changes nothing
-digits-room : (k j n : ℕ) → n ≤ k → n ≤ j → digits k n ≡ digits j n
+digits-room : (k j n : ℕ) → n ≤ k → n ≤ j → decimalDigits k n ≡ decimalDigits j n
 digits-room zero j n h l = digits-low 0 n (omega arith) ∙ sym (digits-low j n (omega arith))
 digits-room (suc k) zero n h l = digits-low (suc k) n (omega arith) ∙ sym (digits-low 0 n (omega arith))
 digits-room (suc k) (suc j) n h l =
@@ -40,7 +40,7 @@ decimal-high (suc k) h =
     digits-high k (suc k) h
     ∙ ap (λ (t : List ℕ). t ++ (48 + suc k % 10) ∷ []) (digits-room k (suc k / 10) (suc k / 10) (omega arith) (omega arith))
 
--- by the number of digits
+-- by the number of decimalDigits
 pub decimal-two : (n : ℕ) → 10 ≤ n → n < 100 → decimal n ≡ (48 + n / 10) ∷ (48 + n % 10) ∷ []
 decimal-two n h l =
     decimal-high n h ∙ ap (λ (t : List ℕ). t ++ (48 + n % 10) ∷ []) (decimal-low (n / 10) (omega arith))
@@ -50,7 +50,7 @@ decimal-three n h l =
     decimal-high n (omega arith)
     ∙ ap (λ (t : List ℕ). t ++ (48 + n % 10) ∷ []) (decimal-two (n / 10) (omega arith) (omega arith))
 
--- how many digits there are at most
+-- how many decimalDigits there are at most
 one-more : (k n : ℕ) → length (decimal (n / 10)) ≤ k → 10 ≤ n → length (decimal n) ≤ k + 1
 one-more k n h l = omega (arith, ap length (decimal-high n l), length-append (decimal (n / 10)) ((48 + n % 10) ∷ []))
 

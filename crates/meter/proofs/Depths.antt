@@ -20,7 +20,7 @@ use Rattle.netlist.proofs.Sim.{length-snoc, run-append, run-length, step-front}
 use Rattle.netlist.proofs.Glued.{map-append, map-agree, at-le-max}
 use Rattle.netlist.proofs.Words.{gates-length, gates-snoc, sound-valid}
 use Rattle.meter.specs.Levels.{levelCount}
-use Rattle.meter.specs.InnerDepths.{depthsTo, Lent}
+use Rattle.meter.specs.InnerDepths.{depthsTo, DepthsLent}
 use Rattle.meter.proofs.Fills.{fill-length, fill-at}
 
 -- Lists of zeros.
@@ -90,7 +90,7 @@ front-stands a b old =
     ∙ ap (λ (l : List ℕ). a ++ l) (drop-at a (b ++ rest) (length a) refl)
     ∙ sym (append-assoc a b rest)
 
-pub gates-start : {net : List ℕ} {i n : ℕ} {ds : List ℕ} → Lent net i n ds → ds ≡ over (replicate (i + n) 0) ds → ds ≡ over (depthsTo net 0) ds
+pub gates-start : {net : List ℕ} {i n : ℕ} {ds : List ℕ} → DepthsLent net i n ds → ds ≡ over (replicate (i + n) 0) ds → ds ≡ over (depthsTo net 0) ds
 unfolding depthsTo
 gates-start {net} {i} {n} {ds} s z =
     let e : ds ≡ over (replicate i 0 ++ replicate n 0) ds = z ∙ ap (λ (l : List ℕ). over l ds) (sym (replicate-append-replicate i n 0)) in
@@ -145,7 +145,7 @@ kind-low (Xor x y) k a b c e = let h : k ≡ 3 = cc in omega arith
 kind-low (And x y) k a b c e = let h : k ≡ 4 = cc in omega arith
 kind-low (Mux x y z) k a b c e = let h : k ≡ 5 = cc in omega arith
 
-module _ {net : List ℕ} {i n : ℕ} {old : List ℕ} (s : Lent net i n old) (z : old ≡ over (replicate (i + n) 0) old) (g : ℕ) (less : g < n) {out : List ℕ} (e : out ≡ over (depthsTo net g) old) where
+module _ {net : List ℕ} {i n : ℕ} {old : List ℕ} (s : DepthsLent net i n old) (z : old ≡ over (replicate (i + n) 0) old) (g : ℕ) (less : g < n) {out : List ℕ} (e : out ≡ over (depthsTo net g) old) where
   front-length : length (depthsTo net g) ≡ i + g
   front-length = omega (arith, depths-length net g, s .inputs)
 
@@ -243,8 +243,8 @@ outs-depth net old s =
     (λ i h. over-at (depths (netOf net)) old i (omega (arith, depths-count net, gates-length net headerWords (gatesOf net)))))
 
 -- For the two passes that fill the depths: the first leaves what the second asks, and both together fill.
-module _ {net : List ℕ} {i g : ℕ} {ds mid : List ℕ} (s : Lent net i g ds) (e : mid ≡ over (replicate (i + g) 0) ds) where
-  pub zeros-stand : Lent net i g mid × (mid ≡ over (replicate (i + g) 0) mid)
+module _ {net : List ℕ} {i g : ℕ} {ds mid : List ℕ} (s : DepthsLent net i g ds) (e : mid ≡ over (replicate (i + g) 0) ds) where
+  pub zeros-stand : DepthsLent net i g mid × (mid ≡ over (replicate (i + g) 0) mid)
   zeros-stand =
       let long : length mid ≡ length ds = ap length e ∙ fill-length 0 ds (i + g) (s .room) in
       (record { sound = s .sound; inputs = s .inputs; gates = s .gates; room = omega (arith, s .room) }, over-stands (replicate (i + g) 0) ds e)

@@ -14,10 +14,10 @@ use Rattle.netlist.specs.Net.{at, depAlg, maxOf, depths}
 use Rattle.netlist.specs.Words.{inputsOf, gatesOf, outputsOf, gatePlace, netOf}
 use Rattle.netlist.proofs.Accepted.{done-sound}
 use Rattle.meter.specs.Meter.{depthsAnswer}
-use Rattle.meter.specs.InnerDepths.{depthsTo, Lent, MeasuredAs}
+use Rattle.meter.specs.InnerDepths.{depthsTo, DepthsLent, MeasuredAs}
 use Rattle.meter.proofs.Depths.{depths-length, depths-whole, top-level, outs-depth}
 
-pub judged-lent : {net ds : List ℕ} {r : Answer} → r ≡ depthsAnswer net (length ds) → r ≡ Done → Lent net (inputsOf net) (gatesOf net) ds
+pub judged-lent : {net ds : List ℕ} {r : Answer} → r ≡ depthsAnswer net (length ds) → r ≡ Done → DepthsLent net (inputsOf net) (gatesOf net) ds
 unfolding depthsAnswer
 judged-lent {net} {ds} e d =
     record {
@@ -32,7 +32,7 @@ pub unmeasured : {net ds : List ℕ} {r : Answer} {x y z : ℕ} → r ≡ depths
     → MeasuredAs net ds (record { answer = r; depth = 0; levels = 0 }) ds
 unmeasured {net} {ds} e h = record { answered = e; deep = untold _ h; tall = untold _ h; filled = kept _ _ h }
 
-module _ {net ds ds′ : List ℕ} (s : Lent net (inputsOf net) (gatesOf net) ds) (f : ds′ ≡ over (depthsTo net (gatesOf net)) ds) where
+module _ {net ds ds′ : List ℕ} (s : DepthsLent net (inputsOf net) (gatesOf net) ds) (f : ds′ ≡ over (depthsTo net (gatesOf net)) ds) where
   pub long : length ds′ ≡ length ds
   long = ap length f ∙ length-over (depthsTo net (gatesOf net)) ds (omega (arith, depths-length net (gatesOf net), s .room))
 

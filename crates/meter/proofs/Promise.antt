@@ -19,7 +19,7 @@ use Rattle.meter.specs.declared.Plan.{Plan}
 use Rattle.meter.specs.declared.Spot.{Spot}
 use Rattle.meter.specs.Levels.{spotOf, levelCount, levels, levelsBelow}
 use Rattle.meter.specs.Meter.{depthsAnswer, levelsAnswer, meterAnswer, MeteredAs}
-use Rattle.meter.specs.InnerDepths.{Lent, MeasuredAs}
+use Rattle.meter.specs.InnerDepths.{DepthsLent, MeasuredAs}
 use Rattle.meter.specs.InnerLevels.{noPlan, gained, Stands, Countable, PlannedAs}
 use Rattle.meter.proofs.Depths.{depths-count, gate-level}
 use Rattle.meter.proofs.Levels.{sum-none, below-agree, none-over}
@@ -67,7 +67,7 @@ module _ {net ds : List ℕ} {p : Measured} {ds′ : List ℕ} (m : MeasuredAs n
     unfolding meterAnswer
     roomless-plan room e h is = refused-plan is h (go (m .answered) d (fits-is room e)) fills
 
-    pub lent : Lent net (inputsOf net) (gatesOf net) ds
+    pub lent : DepthsLent net (inputsOf net) (gatesOf net) ds
     lent = judged-lent (m .answered) d
 
     stands : ds′ ≡ over (depths (netOf net)) ds

@@ -18,7 +18,7 @@ unfoldable pub depthsTo : List ℕ → ℕ → List ℕ
 depthsTo net g = run depAlg (replicate (inputsOf net) 0) (gatesAt net headerWords g)
 
 -- an accepted netlist, its counts, and a depth list with a word for each wire
-pub record Lent (net : List ℕ) (i g : ℕ) (ds : List ℕ) : Type 0 where
+pub record DepthsLent (net : List ℕ) (i g : ℕ) (ds : List ℕ) : Type 0 where
   pub sound : Sound net
   pub inputs : i ≡ inputsOf net
   pub gates : g ≡ gatesOf net

@@ -16,7 +16,7 @@ ghost use Rattle.netlist.specs.Net.{at, depAlg, maxOf};
 ghost use Rattle.netlist.specs.Check.{gateLimit};
 ghost use Rattle.meter.specs.Levels.{one, spotOf, levelsBelow};
 ghost use Rattle.meter.specs.Meter.{depthsAnswer, MeteredAs};
-ghost use Rattle.meter.specs.InnerDepths.{depthsTo, Lent, MeasuredAs};
+ghost use Rattle.meter.specs.InnerDepths.{depthsTo, DepthsLent, MeasuredAs};
 ghost use Rattle.meter.specs.InnerLevels.{noPlan, PlannedAs, noGates, tallied, gained, Stands, Tallies, Clears};
 
 // A level record: the AND gates and the MUX gates of one depth.
@@ -88,7 +88,7 @@ fn clear(list: &mut [u32], count: usize)
 
 // The gates' depths, after those of the inputs, where all depths stand at 0.
 fn put_gates(net: &[u32], depths: &mut [u32], inputs: usize, gates: usize)
-    requires { ⌜ (Lent (now net) inputs gates (now depths)) × (now depths ≡ over (replicate (inputs + gates) 0) (now depths)) ⌝ }
+    requires { ⌜ (DepthsLent (now net) inputs gates (now depths)) × (now depths ≡ over (replicate (inputs + gates) 0) (now depths)) ⌝ }
     ensures { λ _. ⌜ now (depths .exit) ≡ over (depthsTo (now (net .entry)) gates) (now (depths .entry)) ⌝ }
 {
     let mut g: usize = 0;
@@ -108,7 +108,7 @@ fn put_gates(net: &[u32], depths: &mut [u32], inputs: usize, gates: usize)
 // The depths of all wires. The gates' stand at 0 too at first: wire 0 may be a gate, of which a gate's unused
 // operand words read the depth.
 fn put_depths(net: &[u32], depths: &mut [u32], inputs: usize, gates: usize)
-    requires { ⌜ Lent (now net) inputs gates (now depths) ⌝ }
+    requires { ⌜ DepthsLent (now net) inputs gates (now depths) ⌝ }
     ensures { λ _. ⌜ now (depths .exit) ≡ over (depthsTo (now (net .entry)) gates) (now (depths .entry)) ⌝ }
 {
     clear(depths, inputs + gates);

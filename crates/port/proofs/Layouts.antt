@@ -27,7 +27,7 @@ use Rattle.port.specs.declared.Port.{Port}
 use Rattle.port.specs.declared.Made.{Made}
 use Rattle.port.specs.declared.Made.the-variants as made
 use Rattle.port.specs.declared.Found.the-variants as found
-use Rattle.port.specs.Bytes.{digits, highFirst}
+use Rattle.port.specs.Bytes.{valueAt, highFirst}
 use Rattle.port.specs.Layout.{portWith, bitsOf, portOf, Fits, within, portMade, fieldsAnswer, foundBy, BitsWritten}
 use Rattle.port.proofs.Parts.{wrote-part, part-after}
 use Rattle.port.proofs.Digits.{digits-below, digits-field, binary-bit}
@@ -68,7 +68,7 @@ front-bits (b ∷ front) n x h zero = h 0
 front-bits (b ∷ front) n x h (suc i) = front-bits front n x (λ k. h (suc k)) i
 
 -- what is read of a field is its value's low bits, and its value if that fits
-pub field-read : (front : List ℕ) (p n x : ℕ) → length front ≡ p → digits 2 (front ++ highFirst n x) p n ≡ x % 2 ^ n
+pub field-read : (front : List ℕ) (p n x : ℕ) → length front ≡ p → valueAt 2 (front ++ highFirst n x) p n ≡ x % 2 ^ n
 field-read front p n x e =
     digits-field (front ++ highFirst n x) p n x 0
     (λ i l.
@@ -78,28 +78,28 @@ field-read front p n x e =
     ∙ ap (bit x) (omega arith))
     ∙ ap (λ (y : ℕ). y % 2 ^ n) (omega arith)
 
-pub field-held : (front : List ℕ) (p n x : ℕ) → length front ≡ p → x < 2 ^ n → digits 2 (front ++ highFirst n x) p n ≡ x
+pub field-held : (front : List ℕ) (p n x : ℕ) → length front ≡ p → x < 2 ^ n → valueAt 2 (front ++ highFirst n x) p n ≡ x
 field-held front p n x e l = field-read front p n x e ∙ mod-eq-of-lt l
 
 -- what stands behind is not read
-pub read-front : (front rest : List ℕ) (p n : ℕ) → p + n ≤ length front → digits 2 (front ++ rest) p n ≡ digits 2 front p n
-unfolding digits
+pub read-front : (front rest : List ℕ) (p n : ℕ) → p + n ≤ length front → valueAt 2 (front ++ rest) p n ≡ valueAt 2 front p n
+unfolding valueAt
 read-front front rest p zero l = refl
 read-front front rest p (suc n) l =
     ap₂ (λ (a b : ℕ). a * 2 + b) (read-front front rest p n (omega arith)) (List·getD-append front rest 0 (p + n) (omega arith))
 
 -- a number that is read of bits has room in a field of as many bits
-pub read-below : (b : List ℕ) (p n : ℕ) → ((i : ℕ) → getD b i 0 ≤ 1) → digits 2 b p n < 2 ^ n
+pub read-below : (b : List ℕ) (p n : ℕ) → ((i : ℕ) → getD b i 0 ≤ 1) → valueAt 2 b p n < 2 ^ n
 read-below b p n h = digits-below 2 b p n (λ i l. omega (arith, h (p + i)))
 
-pub read-small : (b : List ℕ) (p n m : ℕ) → ((i : ℕ) → getD b i 0 ≤ 1) → n ≤ m → digits 2 b p n < 2 ^ m
+pub read-small : (b : List ℕ) (p n m : ℕ) → ((i : ℕ) → getD b i 0 ≤ 1) → n ≤ m → valueAt 2 b p n < 2 ^ m
 read-small b p n m h l = lt-of-lt-of-le (read-below b p n h) (pow-mono l)
 
 -- and put behind the bits before it gives its bits back
 pub field-back : (b : List ℕ) (p n : ℕ) {front : List ℕ} → ((i : ℕ) → getD b i 0 ≤ 1) → p + n ≤ length b → front ≡ take p b
-    → front ++ highFirst n (digits 2 b p n) ≡ take (p + n) b
+    → front ++ highFirst n (valueAt 2 b p n) ≡ take (p + n) b
 field-back b p n h l e =
-    let x = digits 2 b p n in
+    let x = valueAt 2 b p n in
     let len : length (highFirst n x) ≡ length (take n (drop p b)) = omega (arith, high-length n x, length-take-le n (drop p b) (omega (arith, length-drop p b))) in
     ap₂ (λ (s t : List ℕ). s ++ t) e
     (ext-getD 0 (highFirst n x) (take n (drop p b)) len
@@ -177,17 +177,17 @@ module _ (p : Port) where
       n
 
   -- what is read of the bits within the first four, three, two or one
-  read4 : (i n : ℕ) → i + n ≤ 40 → digits 2 (bitsOf p) i n ≡ digits 2 front4 i n
+  read4 : (i n : ℕ) → i + n ≤ 40 → valueAt 2 (bitsOf p) i n ≡ valueAt 2 front4 i n
   unfolding bitsOf
   read4 i n l = read-front front4 _ i n (omega (arith, length4))
 
-  read3 : (i n : ℕ) → i + n ≤ 18 → digits 2 (bitsOf p) i n ≡ digits 2 front3 i n
+  read3 : (i n : ℕ) → i + n ≤ 18 → valueAt 2 (bitsOf p) i n ≡ valueAt 2 front3 i n
   read3 i n l = read4 i n (omega arith) ∙ read-front front3 _ i n (omega (arith, length3))
 
-  read2 : (i n : ℕ) → i + n ≤ 17 → digits 2 (bitsOf p) i n ≡ digits 2 front2 i n
+  read2 : (i n : ℕ) → i + n ≤ 17 → valueAt 2 (bitsOf p) i n ≡ valueAt 2 front2 i n
   read2 i n l = read3 i n (omega arith) ∙ read-front front2 _ i n (omega (arith, length2))
 
-  read1 : (i n : ℕ) → i + n ≤ 16 → digits 2 (bitsOf p) i n ≡ digits 2 front1 i n
+  read1 : (i n : ℕ) → i + n ≤ 16 → valueAt 2 (bitsOf p) i n ≡ valueAt 2 front1 i n
   read1 i n l = read2 i n (omega arith) ∙ read-front front1 _ i n (omega (arith, length1))
 
 -- ports equal by their fields

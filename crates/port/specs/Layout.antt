@@ -16,7 +16,7 @@ use Rattle.port.specs.declared.Made.{Made}
 use Rattle.port.specs.declared.Made.the-variants as made
 use Rattle.port.specs.declared.Found.{Found}
 use Rattle.port.specs.declared.Found.the-variants as found
-use Rattle.port.specs.Bytes.{digits, highFirst}
+use Rattle.port.specs.Bytes.{valueAt, highFirst}
 
 abbrev pub portWith : ℕ → ℕ → ℕ → ℕ → ℕ → Port
 portWith number admin link errors load = record { number = number; admin = admin; link = link; errors = errors; load = load }
@@ -27,7 +27,7 @@ bitsOf p = highFirst 16 (p .number) ++ highFirst 1 (p .admin) ++ highFirst 1 (p 
 
 -- and back
 unfoldable pub portOf : List ℕ → Port
-portOf b = portWith (digits 2 b 0 16) (digits 2 b 16 1) (digits 2 b 17 1) (digits 2 b 18 22) (digits 2 b 40 24)
+portOf b = portWith (valueAt 2 b 0 16) (valueAt 2 b 16 1) (valueAt 2 b 17 1) (valueAt 2 b 18 22) (valueAt 2 b 40 24)
 
 -- each value has room in its field
 pub record Fits (p : Port) : Type 0 where

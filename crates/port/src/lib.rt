@@ -5,7 +5,7 @@ ghost use mathlib.Core.Path.{_≡_};
 ghost use Prim.Native.Nat.{ℕ, _+_, _<_, _≤_};
 ghost use lib.ListN.{length, getD};
 ghost use Rattle.answer.specs.Fronts.{over};
-ghost use Rattle.port.specs.Bytes.{digits, highFirst};
+ghost use Rattle.port.specs.Bytes.{valueAt, highFirst};
 ghost use Rattle.port.specs.Layout.{bitsOf, portOf, portMade, fieldsAnswer, foundBy, BitsWritten};
 
 pub const RECORD_BITS: usize = 64;
@@ -104,7 +104,7 @@ fn wide(x: u8) -> u32
 // The number that n bits from a place on make.
 fn number_at(s: &[u8], at: usize, n: usize) -> u32
     requires { ⌜ (n ≤ 24) × (at + n ≤ length (now s)) × ((i : ℕ) → getD (now s) i 0 ≤ 1) ⌝ }
-    ensures { λ r. ⌜ r ≡ digits 2 (now (s .entry)) at n ⌝ }
+    ensures { λ r. ⌜ r ≡ valueAt 2 (now (s .entry)) at n ⌝ }
 {
     let mut x: u32 = 0;
     let mut i: usize = 0;

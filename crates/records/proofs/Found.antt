@@ -14,7 +14,7 @@ use Rattle.netlist.specs.Words.{gateStride, gatePlace, header, wordCount}
 use Rattle.netlist.proofs.Accepted.{counts-done}
 use Rattle.records.specs.declared.form.Form.{Form}
 use Rattle.records.specs.Bytes.{wordAt, joined}
-use Rattle.records.specs.File.{outSize, countsIn, gatesIn, outputsIn, begins, startOf, fourIn, outWord, wordsIn, recordAnswer, gateRecord, outRecord, outsAnswer, recordsAnswer, headAnswer}
+use Rattle.records.specs.File.{outSize, countsIn, gatesIn, outputsIn, recordBegins, startOf, fourIn, outWord, wordsIn, recordAnswer, gateRecord, outRecord, outsAnswer, recordsAnswer, headAnswer}
 use Rattle.records.specs.Inner.{Begun, Headed, Framed}
 use Rattle.records.proofs.Joined.{joined-at, joined-in, joined-length}
 
@@ -25,9 +25,9 @@ choose-false true x e = (refl, e)
 choose-false false x e = absurd (let z : _≡_ {A = ℕ} 0 1 = cc in omega arith)
 
 pub begun : (s : List ℕ) (p letter size : ℕ) → recordAnswer s p letter size ≡ Done → Begun s p letter size
-unfolding recordAnswer begins
+unfolding recordAnswer recordBegins
 begun s p letter size d =
-    let e : begins s p letter size ≡ true = not-false _ (refuse-done _ _ _ _ d) in
+    let e : recordBegins s p letter size ≡ true = not-false _ (refuse-done _ _ _ _ d) in
     let a = choose-false _ _ e in
     let b = choose-false _ _ (a .1) in
     record { fits = leb-true _ _ (a .0); first = eqb-true _ _ (b .0); second = eqb-true _ _ (b .1) }

@@ -22,7 +22,7 @@ use Rattle.records.specs.declared.form.Form.{Form}
 use Rattle.records.specs.declared.Quad.{Quad}
 use Rattle.records.specs.declared.marks.Walk.{Walk}
 use Rattle.records.specs.Bytes.{wordAt, wholeWord}
-use Rattle.records.specs.File.{byteN, byteG, byteO, widthOf, headSize, outSize, countsIn, inputsIn, gatesIn, outputsIn, begins, sizeAt, startOf, operandAt, fourIn, wordsIn, recordAnswer, gateRecord, outRecord, outsAnswer, recordsAnswer, bodyAnswer, readAnswer, checkAnswer}
+use Rattle.records.specs.File.{byteN, byteG, byteO, widthOf, headSize, outSize, countsIn, inputsIn, gatesIn, outputsIn, recordBegins, sizeAt, startOf, operandAt, fourIn, wordsIn, recordAnswer, gateRecord, outRecord, outsAnswer, recordsAnswer, bodyAnswer, readAnswer, checkAnswer}
 use Rattle.records.specs.Whole.{wholeCounts, quadIn, gateThere, wholeQuad}
 use Rattle.records.specs.Inner.{gateWire, outWire, Walked, GatesThere, Framed}
 use Rattle.records.proofs.Found.{begun, headed, framed, gate-word, output-word}
@@ -34,27 +34,27 @@ choose-nothing true = refl
 choose-nothing false = refl
 
 module _ (s : List ℕ) (p letter size : ℕ) where
-  pub begins-cut : length s < p + size → begins s p letter size ≡ false
-  unfolding begins
+  pub begins-cut : length s < p + size → recordBegins s p letter size ≡ false
+  unfolding recordBegins
   begins-cut h = simp (lt-leb _ _ h)
 
-  pub begins-first : (getD s p 0 ≡ byteN → ⊥) → begins s p letter size ≡ false
-  unfolding begins
+  pub begins-first : (getD s p 0 ≡ byteN → ⊥) → recordBegins s p letter size ≡ false
+  unfolding recordBegins
   begins-first h = simp (ne-eqb _ _ h, choose-nothing)
 
-  pub begins-second : (getD s (p + 1) 0 ≡ letter → ⊥) → begins s p letter size ≡ false
-  unfolding begins
+  pub begins-second : (getD s (p + 1) 0 ≡ letter → ⊥) → recordBegins s p letter size ≡ false
+  unfolding recordBegins
   begins-second h = simp (ne-eqb _ _ h, choose-nothing)
 
-  pub begins-yes : p + size ≤ length s → getD s p 0 ≡ byteN → getD s (p + 1) 0 ≡ letter → begins s p letter size ≡ true
-  unfolding begins
+  pub begins-yes : p + size ≤ length s → getD s p 0 ≡ byteN → getD s (p + 1) 0 ≡ letter → recordBegins s p letter size ≡ true
+  unfolding recordBegins
   begins-yes h a b = simp (le-leb _ _ h, eq-eqb _ _ a, eq-eqb _ _ b)
 
-  pub record-whole : {t : Bool} → t ≡ begins s p letter size → t ≡ true → Done ≡ recordAnswer s p letter size
+  pub record-whole : {t : Bool} → t ≡ recordBegins s p letter size → t ≡ true → Done ≡ recordAnswer s p letter size
   unfolding recordAnswer refuse
   record-whole e h = rw (← e, h)
 
-  pub record-broken : {t : Bool} → t ≡ begins s p letter size → t ≡ false → Refused 12 1 p ≡ recordAnswer s p letter size
+  pub record-broken : {t : Bool} → t ≡ recordBegins s p letter size → t ≡ false → Refused 12 1 p ≡ recordAnswer s p letter size
   unfolding recordAnswer refuse
   record-broken e h = rw (← e, h)
 

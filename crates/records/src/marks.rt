@@ -11,7 +11,7 @@ ghost use mathlib.Core.Path.{_≡_};
 ghost use Prim.Native.Nat.{_≤_};
 ghost use lib.ListN.{length};
 ghost use Rattle.answer.specs.Answers.{each};
-ghost use Rattle.records.specs.File.{markOf, headSize, gatesIn, begins, sizeAt, startOf, recordAnswer, gateRecord, outsAnswer, recordsAnswer};
+ghost use Rattle.records.specs.File.{markOf, headSize, gatesIn, recordBegins, sizeAt, startOf, recordAnswer, gateRecord, outsAnswer, recordsAnswer};
 ghost use Rattle.records.specs.Inner.{Walked};
 
 // A walk over records: its answer, and if that is done where the walk ended.
@@ -20,10 +20,10 @@ pub(crate) struct Walk {
     pub(crate) at: usize,
 }
 
-// Whether at p begins a record with N and this letter whose bytes are all there.
+// Whether at p recordBegins a record with N and this letter whose bytes are all there.
 fn begins_at(s: &[u8], p: usize, letter: u8, size: usize) -> bool
     requires { ⌜ (p ≤ length (now s)) × (2 ≤ size) ⌝ }
-    ensures { λ r. ⌜ r ≡ begins (now (s .entry)) p letter size ⌝ }
+    ensures { λ r. ⌜ r ≡ recordBegins (now (s .entry)) p letter size ⌝ }
 {
     if s.len() - p < size {
         return false;

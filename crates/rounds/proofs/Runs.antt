@@ -7,14 +7,14 @@ use lib.ListN.{length, getD, length-append, List·getD-append}
 use lib.Seq.{getD-append-add}
 use Rattle.netlist.specs.declared.gate.Gate.{Gate}
 use Rattle.netlist.specs.declared.gate.Gate.the-variants.{Zero}
-use Rattle.netlist.specs.Net.{Alg, at, step, run, Wired}
+use Rattle.netlist.specs.Net.{Alg, at, step, run, GatesWired}
 use Rattle.netlist.proofs.Sim.{run-at}
 
 abbrev pub Holds : {X : Type 0} → Alg X → List X → ℕ → List Gate → Type 0
 Holds A E w gs = (i : ℕ) → i < length gs → at A E (w + i) ≡ step A E (getD gs i Zero)
 
 module _ {X : Type 0} (A : Alg X) where
-  pub run-holds : (v : List X) (gs : List Gate) → Wired (length v) gs → Holds A (run A v gs) (length v) gs
+  pub run-holds : (v : List X) (gs : List Gate) → GatesWired (length v) gs → Holds A (run A v gs) (length v) gs
   run-holds v gs u i h = run-at A v gs i u h
 
   pub holds-left : (E : List X) (w : ℕ) (xs ys : List Gate) → Holds A E w (xs ++ ys) → Holds A E w xs

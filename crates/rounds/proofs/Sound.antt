@@ -5,7 +5,7 @@ use Prim.Native.Nat.{ℕ, zero, suc, _+_, _*_, _≤_, _<_}
 use native.Mathlib.Omega.{arith}
 use lib.ListN.{length, getD, take, drop, replicate}
 use Rattle.netlist.specs.declared.gate.Gate.{Gate}
-use Rattle.netlist.specs.Net.{Wired, Below, Valid, mulsOf, mults}
+use Rattle.netlist.specs.Net.{GatesWired, Below, Valid, mulsOf, mults}
 use Rattle.netlist.specs.Glue.{upFrom}
 use Rattle.netlist.specs.Words.{words}
 use Rattle.netlist.specs.Sound.{Sound}
@@ -94,7 +94,7 @@ far : {x w v : ℕ} → x < w → w ≤ v → x < v
 far h q = omega arith
 
 module _ (w : ℕ) (s : Registers ℕ) (b : Under w s) where
-  head-wired : Wired w (headGates w s)
+  head-wired : GatesWired w (headGates w s)
   head-wired =
       (b .a _, b .a _)
       & (far (b .b _) (omega arith), far (b .b _) (omega arith))
@@ -102,10 +102,10 @@ module _ (w : ℕ) (s : Registers ℕ) (b : Under w s) where
       & (omega arith, far (b .k _) (omega arith))
       & tt
 
-  out-wired : (x : ℕ) → x < w → Wired (w + 4) (outGates w (w + 4) x)
+  out-wired : (x : ℕ) → x < w → GatesWired (w + 4) (outGates w (w + 4) x)
   out-wired x h = (omega arith, omega arith) & (omega arith, omega arith) & (omega arith, omega arith) & tt
 
-  tail-wired : (u : ℕ) → w + 4 ≤ u → Wired u (tailGates w u s)
+  tail-wired : (u : ℕ) → w + 4 ≤ u → GatesWired u (tailGates w u s)
   tail-wired u h =
       (far (b .a _) (omega arith), far (b .a _) (omega arith))
       & (omega arith, omega arith)
@@ -125,10 +125,10 @@ module _ (w : ℕ) (s : Registers ℕ) (b : Under w s) where
       all-moved (λ x. x < w') s (u + 9) (u + 3) (u + 6) (omega arith) (omega arith) (omega arith) (omega arith)
       (all-more (λ x. x < w) (λ x. x < w') s (λ x q. omega arith) b)
 
-wired-then : (w w' : ℕ) (gs hs : List Gate) → w + length gs ≡ w' → Wired w gs → Wired w' hs → Wired w (gs ++ hs)
+wired-then : (w w' : ℕ) (gs hs : List Gate) → w + length gs ≡ w' → GatesWired w gs → GatesWired w' hs → GatesWired w (gs ++ hs)
 wired-then w w' gs hs e g h = wired-append w gs hs g (rw e h)
 
-pub from-wired : (n m x w : ℕ) (s : Registers ℕ) → Under w s → x + m ≤ w → Wired w (gatesFrom n m x w s)
+pub from-wired : (n m x w : ℕ) (s : Registers ℕ) → Under w s → x + m ≤ w → GatesWired w (gatesFrom n m x w s)
 unfolding gatesFrom
 from-wired (suc n) m x w s b h =
     let tail = tailGates w (w + 4) s in
@@ -191,7 +191,7 @@ start-under iv m =
     (up-under 0 128 (130 + m) (omega arith) (omega arith))
     (bits-every (λ x. x < 130 + m) (128 + m) (129 + m) (omega arith) (omega arith) (omega arith) iv)
 
-pub gates-wired : (iv : List ℕ) (m : ℕ) → Wired (128 + m) (kreyviumGates iv m)
+pub gates-wired : (iv : List ℕ) (m : ℕ) → GatesWired (128 + m) (kreyviumGates iv m)
 unfolding kreyviumGates
 gates-wired iv m =
     let e : suc (suc (128 + m)) ≡ 130 + m = omega arith in

@@ -14,9 +14,9 @@ use Rattle.answer.specs.declared.Answer.the-variants.{Done, Refused}
 use Rattle.answer.specs.Answers.{_▹_, each}
 use Rattle.answer.specs.Choose.{choose}
 use Rattle.answer.proofs.Rows.{first-done, then-done, both, stop, go, pass, refuse-done, refuse-not, refuse-yes, each-at, each-done, each-more, each-stop, each-all}
-use Rattle.port.specs.Bytes.{digits}
+use Rattle.port.specs.Bytes.{valueAt}
 use Rattle.port.proofs.Digits.{digits-split}
-use Rattle.sequence.specs.Files.{byteP, byteT, frameSize, start, framesIn, begins, wordAt, ivNumber, rises, frameAnswer, fileAnswer}
+use Rattle.sequence.specs.Files.{byteP, byteT, frameSize, start, framesIn, frameBegins, ivWordAt, ivNumber, rises, frameAnswer, fileAnswer}
 
 -- ---- the mark of a frame
 
@@ -33,41 +33,41 @@ both-bytes a b h g = by (eqb a byteP) (eqb b byteT) refl refl
     by false y e f = ne-eqb (a + b * 256) 21584 (λ q. eqb-false a byteP e (omega arith))
 
 module _ (s : List ℕ) (p : ℕ) where
-  pub begins-cut : length s < p + frameSize → begins s p ≡ false
-  unfolding begins
+  pub begins-cut : length s < p + frameSize → frameBegins s p ≡ false
+  unfolding frameBegins
   begins-cut h = rw (lt-leb (p + frameSize) (length s) h)
 
-  begins-by : p + frameSize ≤ length s → begins s p ≡ choose (eqb (getD s p 0) byteP) (eqb (getD s (p + 1) 0) byteT) false
-  unfolding begins
+  begins-by : p + frameSize ≤ length s → frameBegins s p ≡ choose (eqb (getD s p 0) byteP) (eqb (getD s (p + 1) 0) byteT) false
+  unfolding frameBegins
   begins-by h = rw (le-leb (p + frameSize) (length s) h)
 
   -- the two bytes of the mark as one number
-  pub begins-mark : p + frameSize ≤ length s → getD s p 0 < 256 → getD s (p + 1) 0 < 256 → eqb (getD s p 0 + getD s (p + 1) 0 * 256) 21584 ≡ begins s p
+  pub begins-mark : p + frameSize ≤ length s → getD s p 0 < 256 → getD s (p + 1) 0 < 256 → eqb (getD s p 0 + getD s (p + 1) 0 * 256) 21584 ≡ frameBegins s p
   begins-mark h a b = both-bytes (getD s p 0) (getD s (p + 1) 0) a b ∙ sym (begins-by h)
 
-  pub begins-within : begins s p ≡ true → p + frameSize ≤ length s
-  unfolding begins
+  pub begins-within : frameBegins s p ≡ true → p + frameSize ≤ length s
+  unfolding frameBegins
   begins-within e = leb-true (p + frameSize) (length s) (chosen _ _ e .0)
 
-  pub begins-marked : begins s p ≡ true → (getD s p 0 ≡ byteP) × (getD s (p + 1) 0 ≡ byteT)
-  unfolding begins
+  pub begins-marked : frameBegins s p ≡ true → (getD s p 0 ≡ byteP) × (getD s (p + 1) 0 ≡ byteT)
+  unfolding frameBegins
   begins-marked e =
       let m = chosen (eqb (getD s p 0) byteP) (eqb (getD s (p + 1) 0) byteT) (chosen (leb (p + frameSize) (length s)) _ e .1) in
       (eqb-true (getD s p 0) byteP (m .0), eqb-true (getD s (p + 1) 0) byteT (m .1))
 
-  pub begins-there : p + frameSize ≤ length s → getD s p 0 ≡ byteP → getD s (p + 1) 0 ≡ byteT → begins s p ≡ true
+  pub begins-there : p + frameSize ≤ length s → getD s p 0 ≡ byteP → getD s (p + 1) 0 ≡ byteT → frameBegins s p ≡ true
   begins-there h e f = begins-by h ∙ rw (e, f)
 
 -- ---- a word of eight bytes
 
 module _ (s : List ℕ) (p : ℕ) where
-  pub word-none : length s < p + 8 → 0 ≡ wordAt s p
-  unfolding wordAt
+  pub word-none : length s < p + 8 → 0 ≡ ivWordAt s p
+  unfolding ivWordAt
   word-none h = rw (lt-leb (p + 8) (length s) h)
 
   -- where there are eight bytes
-  pub word-there : p + 8 ≤ length s → wordAt s p ≡ digits 256 s p 8
-  unfolding wordAt
+  pub word-there : p + 8 ≤ length s → ivWordAt s p ≡ valueAt 256 s p 8
+  unfolding ivWordAt
   word-there h = rw (le-leb (p + 8) (length s) h)
 
 -- ---- IVs as numbers
@@ -94,10 +94,10 @@ low-decides M a b v w e =
     most x b w l = omega arith
 
 -- the IV of the frame at p is two words
-pub iv-words : (s : List ℕ) (p : ℕ) → digits 256 s (p + 2) 16 ≡ digits 256 s (p + 2) 8 * 2 ^ 64 + digits 256 s (p + 10) 8
+pub iv-words : (s : List ℕ) (p : ℕ) → valueAt 256 s (p + 2) 16 ≡ valueAt 256 s (p + 2) 8 * 2 ^ 64 + valueAt 256 s (p + 10) 8
 iv-words s p =
     let e : p + 2 + 8 ≡ p + 10 = omega arith in
-    digits-split 256 s (p + 2) 8 8 ∙ ap (λ (q : ℕ). digits 256 s (p + 2) 8 * 2 ^ 64 + digits 256 s q 8) e
+    digits-split 256 s (p + 2) 8 8 ∙ ap (λ (q : ℕ). valueAt 256 s (p + 2) 8 * 2 ^ 64 + valueAt 256 s q 8) e
 
 -- For code that compares two words of each, the low ones giving a carry d, 1 if the second is above.
 module _ (a b v w : ℕ) (h : b < 2 ^ 64) (g : w < 2 ^ 64) where
@@ -132,12 +132,12 @@ module _ (a b v w : ℕ) (h : b < 2 ^ 64) (g : w < 2 ^ 64) where
 -- ---- a frame
 
 -- the IV of the frame at p, read as two words
-pub iv-read : (s : List ℕ) (p : ℕ) {v w : ℕ} → p % frameSize ≡ 0 → v ≡ digits 256 s (p + 2) 8 → w ≡ digits 256 s (p + 10) 8
+pub iv-read : (s : List ℕ) (p : ℕ) {v w : ℕ} → p % frameSize ≡ 0 → v ≡ valueAt 256 s (p + 2) 8 → w ≡ valueAt 256 s (p + 10) 8
     → v * 2 ^ 64 + w ≡ ivNumber s (p / frameSize)
 unfolding ivNumber
 iv-read s p m e f =
     let q : p + 2 ≡ start (p / frameSize) + 2 = omega arith in
-    ap₂ (λ (c d : ℕ). c * 2 ^ 64 + d) e f ∙ sym (iv-words s p) ∙ ap (λ (i : ℕ). digits 256 s i 16) q
+    ap₂ (λ (c d : ℕ). c * 2 ^ 64 + d) e f ∙ sym (iv-words s p) ∙ ap (λ (i : ℕ). valueAt 256 s i 16) q
 
 -- compared with the one before, which is carried along
 pub rises-carried : (s : List ℕ) (p : ℕ) {x y : ℕ} {r : Bool} → frameSize ≤ p → x ≡ ivNumber s (p / frameSize - 1) → y ≡ ivNumber s (p / frameSize)
@@ -152,11 +152,11 @@ module _ (l : ℕ) (s : List ℕ) (p : ℕ) (m : p % frameSize ≡ 0) where
   at-start : start (p / frameSize) ≡ p
   at-start = omega arith
 
-  pub frame-bad : {b : Bool} → b ≡ begins s p → not b ≡ true → Refused 15 l p ≡ frameAnswer l s (p / frameSize)
+  pub frame-bad : {b : Bool} → b ≡ frameBegins s p → not b ≡ true → Refused 15 l p ≡ frameAnswer l s (p / frameSize)
   unfolding frameAnswer
   frame-bad e h = rw at-start (stop _ (refuse-yes 15 l p (sym (ap not e) ∙ h)) refl)
 
-  module _ {b c : Bool} (e : b ≡ begins s p) (h : not b ≡ false) (f : c ≡ rises s (p / frameSize)) where
+  module _ {b c : Bool} (e : b ≡ frameBegins s p) (h : not b ≡ false) (f : c ≡ rises s (p / frameSize)) where
     pub frame-low : not c ≡ true → Refused 16 l p ≡ frameAnswer l s (p / frameSize)
     unfolding frameAnswer
     frame-low g =
@@ -169,7 +169,7 @@ module _ (l : ℕ) (s : List ℕ) (p : ℕ) (m : p % frameSize ≡ 0) where
 
 -- what a frame that is done tells
 module _ (l : ℕ) (s : List ℕ) (k : ℕ) (e : frameAnswer l s k ≡ Done) where
-  pub frame-begins : begins s (start k) ≡ true
+  pub frame-begins : frameBegins s (start k) ≡ true
   unfolding frameAnswer
   frame-begins = not-false _ (refuse-done 15 l (start k) _ (first-done _ _ e))
 
@@ -177,17 +177,17 @@ module _ (l : ℕ) (s : List ℕ) (k : ℕ) (e : frameAnswer l s k ≡ Done) whe
   unfolding frameAnswer
   frame-rises = not-false _ (refuse-done 16 l (start k) _ (then-done _ _ e))
 
-pub frame-done : (l : ℕ) (s : List ℕ) (k : ℕ) → begins s (start k) ≡ true → rises s k ≡ true → frameAnswer l s k ≡ Done
+pub frame-done : (l : ℕ) (s : List ℕ) (k : ℕ) → frameBegins s (start k) ≡ true → rises s k ≡ true → frameAnswer l s k ≡ Done
 unfolding frameAnswer
 frame-done l s k e f = both (refuse-not 15 l (start k) (ap not e)) (refuse-not 16 l (start k) (ap not f))
 
 -- ---- a file
 
 -- the first frame
-pub first-bad : (l : ℕ) (s : List ℕ) {b : Bool} → b ≡ begins s 0 → not b ≡ true → Refused 15 l 0 ≡ frameAnswer l s 0
+pub first-bad : (l : ℕ) (s : List ℕ) {b : Bool} → b ≡ frameBegins s 0 → not b ≡ true → Refused 15 l 0 ≡ frameAnswer l s 0
 first-bad l s e h = frame-bad l s 0 refl e h
 
-pub first-good : (l : ℕ) (s : List ℕ) {b : Bool} → b ≡ begins s 0 → not b ≡ false → frameAnswer l s 0 ≡ Done
+pub first-good : (l : ℕ) (s : List ℕ) {b : Bool} → b ≡ frameBegins s 0 → not b ≡ false → frameAnswer l s 0 ≡ Done
 unfolding rises
 first-good l s e h = frame-done l s 0 (sym e ∙ not-false _ h) refl
 
@@ -240,7 +240,7 @@ module _ (l : ℕ) (s : List ℕ) (e : fileAnswer l s ≡ Done) where
   unfolding fileAnswer
   file-frame k h = each-at (framesIn s) (frameAnswer l s) e k h
 
-  pub file-begins : (k : ℕ) → k < framesIn s → begins s (start k) ≡ true
+  pub file-begins : (k : ℕ) → k < framesIn s → frameBegins s (start k) ≡ true
   file-begins k h = frame-begins l s k (file-frame k h)
 
   pub file-rises : (k : ℕ) → k < framesIn s → rises s k ≡ true

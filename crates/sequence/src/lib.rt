@@ -7,8 +7,8 @@ ghost use lib.ListN.{length};
 ghost use lib.Dec.{ltb};
 ghost use Rattle.answer.specs.declared.Answer.{Answer};
 ghost use Rattle.answer.specs.Answers.{each};
-ghost use Rattle.port.specs.Bytes.{digits};
-ghost use Rattle.sequence.specs.Files.{frameSize, begins, wordAt, frameAnswer, fileAnswer};
+ghost use Rattle.port.specs.Bytes.{valueAt};
+ghost use Rattle.sequence.specs.Files.{frameSize, frameBegins, ivWordAt, frameAnswer, fileAnswer};
 
 // The bytes of a frame.
 pub const FRAME_SIZE: usize = 26;
@@ -25,7 +25,7 @@ fn wide(x: u8) -> u64
 // The word that eight bytes from a place on make.
 fn eight_bytes(s: &[u8], at: usize) -> u64
     requires { ⌜ at + 8 ≤ length (now s) ⌝ }
-    ensures { λ r. ⌜ r ≡ digits 256 (now (s .entry)) at 8 ⌝ }
+    ensures { λ r. ⌜ r ≡ valueAt 256 (now (s .entry)) at 8 ⌝ }
 {
     let mut x: u64 = 0;
     let mut i: usize = 0;
@@ -38,7 +38,7 @@ fn eight_bytes(s: &[u8], at: usize) -> u64
 
 // The same for any place: 0 where there are not eight bytes.
 pub fn word(s: &[u8], at: usize) -> u64
-    ensures { λ r. ⌜ r ≡ wordAt (now (s .entry)) at ⌝ }
+    ensures { λ r. ⌜ r ≡ ivWordAt (now (s .entry)) at ⌝ }
 {
     if s.len() < 8 {
         return 0;
@@ -52,7 +52,7 @@ pub fn word(s: &[u8], at: usize) -> u64
 // Whether the mark stands at a place.
 fn marked(s: &[u8], at: usize) -> bool
     requires { ⌜ at + frameSize ≤ length (now s) ⌝ }
-    ensures { λ r. ⌜ r ≡ begins (now (s .entry)) at ⌝ }
+    ensures { λ r. ⌜ r ≡ frameBegins (now (s .entry)) at ⌝ }
 {
     wide(s[at]) + wide(s[at + 1]) * 256 == MARK
 }

@@ -27,7 +27,7 @@ use Rattle.line.specs.Asked.{askedOf}
 use Rattle.line.proofs.Lines.{long-nothing}
 use Rattle.text.specs.declared.Printing.{Printing}
 use Rattle.text.specs.Text.{titleLine, netText, refusal, thresholdText, textOf, printed, Kept, Printed}
-use Rattle.text.specs.Inner.{Room, Wrote, wordsText}
+use Rattle.text.specs.Inner.{Room, WroteText, wordsText}
 use Rattle.text.proofs.Fits.{netlist-fits, threshold-few, printed-fits}
 use Rattle.text.proofs.Netlists.{words-text}
 use Rattle.text.proofs.Parts.{wrote-front, wrote-size}
@@ -121,7 +121,7 @@ pub room-fits : (len needed : ℕ) (r : Answer) → r ≡ roomAnswer 2 len neede
 room-fits len needed r e h = room-done 2 len needed (sym e ∙ h)
 
 pub keep-all : (size end : ℕ) (text old new : List ℕ) (r : Answer) → size ≤ length text → r ≡ roomAnswer 2 (length old) size → r ≡ Done
-    → Wrote (take size text) old 0 new end → Kept (take size text) old (record { answer = Done; size = end }) new
+    → WroteText (take size text) old 0 new end → Kept (take size text) old (record { answer = Done; size = end }) new
 keep-all size end text old new r k e h w =
     let l = length-take-le size text k in
     record {
@@ -131,7 +131,7 @@ keep-all size end text old new r k e h w =
     }
 
 -- the text, and what is kept of the list that it was stored into
-module _ (input list new : List ℕ) (size : ℕ) (w : Wrote (printed input) list 0 new size) (h : 131072 ≤ length list) where
+module _ (input list new : List ℕ) (size : ℕ) (w : WroteText (printed input) list 0 new size) (h : 131072 ≤ length list) where
   size-is : size ≡ length (printed input)
   size-is = omega (arith, w .past)
 

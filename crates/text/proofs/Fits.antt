@@ -9,7 +9,7 @@ use lib.ListN.{length, length-append}
 use Rattle.answer.specs.Choose.{choose}
 use Rattle.netlist.specs.declared.gate.Gate.{Gate}
 use Rattle.netlist.specs.declared.gate.Gate.the-variants.{Zero, One, Not, Xor, And, Mux}
-use Rattle.netlist.specs.Net.{Net, depth, mults, mulsOf, Uses, Wired, Below, Valid}
+use Rattle.netlist.specs.Net.{Net, depth, mults, mulsOf, Uses, GatesWired, Below, Valid}
 use Rattle.cells.specs.Cells.{thresholdNet}
 use Rattle.cells.proofs.Facts.{threshold-inputs, threshold-outputs, threshold-valid, threshold-gates-64}
 use Rattle.emit.specs.Emit.{noThreshold}
@@ -79,7 +79,7 @@ gate-line-most w g h u =
     let l : w ≤ 10000 = omega arith in
     omega (arith, three (decimal w) (gateText g) newline, decimal-4 w h, gate-most w g l u)
 
-gates-most : (w : ℕ) (gs : List Gate) → w + length gs ≤ 10000 → Wired w gs → length (gateLines w gs) ≤ 24 * length gs
+gates-most : (w : ℕ) (gs : List Gate) → w + length gs ≤ 10000 → GatesWired w gs → length (gateLines w gs) ≤ 24 * length gs
 unfolding gateLines
 gates-most w [] h u = omega arith
 gates-most w (g ∷ gs) h u =

@@ -5,7 +5,7 @@ use mathlib.Core.List.{List, [], _∷_, _++_}
 use Rattle.netlist.specs.Net.{Net}
 use Rattle.cells.proofs.Samples.{two-of-three}
 use Rattle.emit.specs.Emit.{noThreshold}
-use Rattle.line.specs.Decimal.{digits, decimal}
+use Rattle.line.specs.Decimal.{decimalDigits, decimal}
 use Rattle.line.specs.Asked.{isDigit, numberAt, endedBy, followed, askedOf}
 use Rattle.text.specs.Text.{named, pair, triple, titleLine, sizes, costs, gateText, gateLine, gateLines, outLine, outLines, netText, thresholdText, textOf, printed}
 
@@ -34,5 +34,5 @@ exampleText =
     ∷ []
 
 pub example-printed : printed example ≡ exampleText
-unfolding isDigit numberAt endedBy followed askedOf digits decimal named pair triple titleLine sizes costs gateText gateLine gateLines outLine outLines netText noThreshold thresholdText textOf printed
+unfolding isDigit numberAt endedBy followed askedOf decimalDigits decimal named pair triple titleLine sizes costs gateText gateLine gateLines outLine outLines netText noThreshold thresholdText textOf printed
 example-printed = ap (λ (net : Net). titleLine 2 3 ++ netText net) two-of-three

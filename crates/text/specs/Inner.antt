@@ -14,7 +14,7 @@ pub record Room (text out : List ℕ) (at : ℕ) : Type 0 where
   pub fits : at + length text ≤ length out
 
 -- the text was stored from byte at on, and r is the place past it
-pub record Wrote (text out : List ℕ) (at : ℕ) (out′ : List ℕ) (r : ℕ) : Type 0 where
+pub record WroteText (text out : List ℕ) (at : ℕ) (out′ : List ℕ) (r : ℕ) : Type 0 where
   pub bytes : out′ ≡ sets out at text
   pub past : r ≡ at + length text
 

@@ -12,11 +12,11 @@ ghost use mathlib.Core.Path.{_≡_};
 ghost use Prim.Native.Nat.{_+_, _≤_};
 ghost use Rattle.netlist.specs.Words.{headerWords, gateAt, gatesAt};
 ghost use Rattle.text.specs.Text.{gateText, gateLine, gateLines};
-ghost use Rattle.text.specs.Inner.{Room, Wrote};
+ghost use Rattle.text.specs.Inner.{Room, WroteText};
 
 fn put_kind(out: &mut [u8], at: usize, gate: Gate) -> usize
     requires { ⌜ Room (gateText gate) (now out) at ⌝ }
-    ensures { λ r. ⌜ Wrote (gateText gate) (now (out .entry)) at (now (out .exit)) r ⌝ }
+    ensures { λ r. ⌜ WroteText (gateText gate) (now (out .entry)) at (now (out .exit)) r ⌝ }
 {
     match gate {
         Gate::Zero => put_bytes(out, at, b" ZERO"),
@@ -30,7 +30,7 @@ fn put_kind(out: &mut [u8], at: usize, gate: Gate) -> usize
 
 fn put_gate(out: &mut [u8], at: usize, wire: u32, gate: Gate) -> usize
     requires { ⌜ Room (gateLine wire gate) (now out) at ⌝ }
-    ensures { λ r. ⌜ Wrote (gateLine wire gate) (now (out .entry)) at (now (out .exit)) r ⌝ }
+    ensures { λ r. ⌜ WroteText (gateLine wire gate) (now (out .entry)) at (now (out .exit)) r ⌝ }
 {
     let i = put_decimal(out, at, wire);
     let j = put_kind(out, i, gate);
@@ -48,7 +48,7 @@ fn gate_at(words: &[u32], place: usize) -> Gate
     let b = answer::word_at(words, place + 2);
     let c = answer::word_at(words, place + 3);
     let t = netlist::gate::take_apart(kind, a, b, c);
-    let Taken::Valid(gate) = t else {
+    let Taken::Known(gate) = t else {
         return Gate::Zero;
     };
     gate
@@ -58,7 +58,7 @@ fn gate_at(words: &[u32], place: usize) -> Gate
 pub(crate) fn put_gates(out: &mut [u8], at: usize, words: &[u32], inputs: u32, gates: u32) -> usize
     requires { ⌜ inputs + gates ≤ 65536 ⌝ }
     requires { ⌜ Room (gateLines inputs (gatesAt (now words) headerWords gates)) (now out) at ⌝ }
-    ensures { λ r. ⌜ Wrote (gateLines inputs (gatesAt (now (words .entry)) headerWords gates)) (now (out .entry)) at (now (out .exit)) r ⌝ }
+    ensures { λ r. ⌜ WroteText (gateLines inputs (gatesAt (now (words .entry)) headerWords gates)) (now (out .entry)) at (now (out .exit)) r ⌝ }
 {
     let mut next = at;
     let mut place: usize = HEADER_WORDS;

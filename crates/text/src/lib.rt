@@ -10,7 +10,7 @@ use line::Asked;
 ghost use Prim.Native.Nat.{_≤_};
 ghost use lib.ListN.{length, take};
 ghost use Rattle.text.specs.Text.{printed, Kept, Printed};
-ghost use Rattle.text.specs.Inner.{Wrote};
+ghost use Rattle.text.specs.Inner.{WroteText};
 
 // The answer, with the length of the text, 0 on a refusal.
 pub struct Printing {
@@ -22,7 +22,7 @@ pub struct Printing {
 // gates, so 17,160 words with header and output (`words-most`).
 fn write(input: &[u8], text: &mut [u8]) -> usize
     requires { ⌜ 131072 ≤ length (now text) ⌝ }
-    ensures { λ r. ⌜ Wrote (printed (now (input .entry))) (now (text .entry)) 0 (now (text .exit)) r ⌝ }
+    ensures { λ r. ⌜ WroteText (printed (now (input .entry))) (now (text .entry)) 0 (now (text .exit)) r ⌝ }
 {
     let asked = line::parse(input);
     let Asked::Line { d, n } = asked else {

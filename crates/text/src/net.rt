@@ -9,11 +9,11 @@ ghost use Prim.Native.Nat.{_+_, _≤_};
 ghost use lib.ListN.{drop};
 ghost use Rattle.netlist.specs.Words.{inputsOf, gatesOf};
 ghost use Rattle.text.specs.Text.{titleLine, sizes, costs, outLine, outLines};
-ghost use Rattle.text.specs.Inner.{Room, Wrote, wordsText};
+ghost use Rattle.text.specs.Inner.{Room, WroteText, wordsText};
 
 pub(crate) fn put_title(out: &mut [u8], at: usize, d: u32, n: u32) -> usize
     requires { ⌜ Room (titleLine d n) (now out) at ⌝ }
-    ensures { λ r. ⌜ Wrote (titleLine d n) (now (out .entry)) at (now (out .exit)) r ⌝ }
+    ensures { λ r. ⌜ WroteText (titleLine d n) (now (out .entry)) at (now (out .exit)) r ⌝ }
 {
     let i = put_pair(out, at, b"T ", d, n);
     put_bytes(out, i, b"\n")
@@ -21,7 +21,7 @@ pub(crate) fn put_title(out: &mut [u8], at: usize, d: u32, n: u32) -> usize
 
 fn put_sizes(out: &mut [u8], at: usize, inputs: u32, gates: u32, outputs: u32) -> usize
     requires { ⌜ Room (sizes inputs gates outputs) (now out) at ⌝ }
-    ensures { λ r. ⌜ Wrote (sizes inputs gates outputs) (now (out .entry)) at (now (out .exit)) r ⌝ }
+    ensures { λ r. ⌜ WroteText (sizes inputs gates outputs) (now (out .entry)) at (now (out .exit)) r ⌝ }
 {
     let i = put_named(out, at, b"in ", inputs);
     let j = put_named(out, i, b" gates ", gates);
@@ -30,7 +30,7 @@ fn put_sizes(out: &mut [u8], at: usize, inputs: u32, gates: u32, outputs: u32) -
 
 fn put_costs(out: &mut [u8], at: usize, depth: u32, multiplications: u32) -> usize
     requires { ⌜ Room (costs depth multiplications) (now out) at ⌝ }
-    ensures { λ r. ⌜ Wrote (costs depth multiplications) (now (out .entry)) at (now (out .exit)) r ⌝ }
+    ensures { λ r. ⌜ WroteText (costs depth multiplications) (now (out .entry)) at (now (out .exit)) r ⌝ }
 {
     let i = put_named(out, at, b" depth ", depth);
     let j = put_named(out, i, b" mult ", multiplications);
@@ -39,7 +39,7 @@ fn put_costs(out: &mut [u8], at: usize, depth: u32, multiplications: u32) -> usi
 
 fn put_output(out: &mut [u8], at: usize, wire: u32) -> usize
     requires { ⌜ Room (outLine wire) (now out) at ⌝ }
-    ensures { λ r. ⌜ Wrote (outLine wire) (now (out .entry)) at (now (out .exit)) r ⌝ }
+    ensures { λ r. ⌜ WroteText (outLine wire) (now (out .entry)) at (now (out .exit)) r ⌝ }
 {
     let i = put_named(out, at, b"out ", wire);
     put_bytes(out, i, b"\n")
@@ -48,7 +48,7 @@ fn put_output(out: &mut [u8], at: usize, wire: u32) -> usize
 // The output wires are the words from a place to the end.
 fn put_outputs(out: &mut [u8], at: usize, words: &[u32], place: usize) -> usize
     requires { ⌜ Room (outLines (drop place (now words))) (now out) at ⌝ }
-    ensures { λ r. ⌜ Wrote (outLines (drop place (now (words .entry)))) (now (out .entry)) at (now (out .exit)) r ⌝ }
+    ensures { λ r. ⌜ WroteText (outLines (drop place (now (words .entry)))) (now (out .entry)) at (now (out .exit)) r ⌝ }
 {
     let mut next = at;
     let mut i = place;
@@ -68,7 +68,7 @@ pub(crate) fn put_net(
 ) -> usize
     requires { ⌜ inputsOf (now words) + gatesOf (now words) ≤ 65536 ⌝ }
     requires { ⌜ Room (wordsText (now words) depth multiplications) (now out) at ⌝ }
-    ensures { λ r. ⌜ Wrote (wordsText (now (words .entry)) depth multiplications) (now (out .entry)) at (now (out .exit)) r ⌝ }
+    ensures { λ r. ⌜ WroteText (wordsText (now (words .entry)) depth multiplications) (now (out .entry)) at (now (out .exit)) r ⌝ }
 {
     let counts = netlist::counts::counts_of(words);
     let inputs = counts.inputs;

@@ -13,7 +13,7 @@ ghost use Rattle.netlist.specs.Words.{words};
 ghost use Rattle.cells.specs.Cells.{thresholdNet};
 ghost use Rattle.emit.specs.Emit.{noThreshold};
 ghost use Rattle.text.specs.Text.{thresholdText};
-ghost use Rattle.text.specs.Inner.{Wrote};
+ghost use Rattle.text.specs.Inner.{WroteText};
 
 fn threshold_depth(d: u32, n: u32) -> u32
     requires { ⌜ noThreshold d n ≡ false ⌝ }
@@ -45,7 +45,7 @@ fn put_emitted(out: &mut [u8], d: u32, n: u32, net: &[u32]) -> usize
     requires { ⌜ noThreshold d n ≡ false ⌝ }
     requires { ⌜ now net ≡ words (thresholdNet d n) ⌝ }
     requires { ⌜ 131072 ≤ length (now out) ⌝ }
-    ensures { λ r. ⌜ Wrote (thresholdText d n) (now (out .entry)) 0 (now (out .exit)) r ⌝ }
+    ensures { λ r. ⌜ WroteText (thresholdText d n) (now (out .entry)) 0 (now (out .exit)) r ⌝ }
 {
     let i = put_title(out, 0, d, n);
     let depth = threshold_depth(d, n);
@@ -57,7 +57,7 @@ fn put_emitted(out: &mut [u8], d: u32, n: u32, net: &[u32]) -> usize
 pub(crate) fn put_threshold(out: &mut [u8], d: u32, n: u32, space: &mut [u32]) -> usize
     requires { ⌜ 131072 ≤ length (now out) ⌝ }
     requires { ⌜ 17160 ≤ length (now space) ⌝ }
-    ensures { λ r. ⌜ Wrote (thresholdText d n) (now (out .entry)) 0 (now (out .exit)) r ⌝ }
+    ensures { λ r. ⌜ WroteText (thresholdText d n) (now (out .entry)) 0 (now (out .exit)) r ⌝ }
 {
     let r = emit::emit_threshold(d, n, space);
     let Answer::Done = r else {

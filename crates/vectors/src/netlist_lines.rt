@@ -166,7 +166,7 @@ fn say_gate(net: &[u32], g: u32) {
     say_number(counts_of(net).inputs as usize + g as usize);
     say(b" ");
     let t = netlist::gate::take_apart(kind, a, b, c);
-    let Taken::Valid(gate) = t else {
+    let Taken::Known(gate) = t else {
         say(b"no kind;");
         return;
     };

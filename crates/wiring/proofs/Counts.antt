@@ -13,7 +13,7 @@ use Rattle.netlist.specs.declared.gate.Gate.{Gate}
 use Rattle.netlist.specs.declared.gate.Gate.the-variants.{Not, Xor, And, Mux}
 use Rattle.netlist.specs.Net.{mulsOf}
 use Rattle.netlist.proofs.Glued.{muls-append}
-use Rattle.cells.specs.Cells.{Kept, Level, someCells, keptAt, cellGates, rowGates, sumGates, levelGates, levelAfter, firstGates, firstLevel, levelsGates, allGates, thresholdPart}
+use Rattle.cells.specs.Cells.{Kept, CellLevel, someCells, keptAt, cellGates, rowGates, sumGates, levelGates, levelAfter, firstGates, firstLevel, levelsGates, allGates, thresholdPart}
 
 -- k of the gates multiply nothing
 abbrev Plain : ℕ → List Gate → Type 0
@@ -68,7 +68,7 @@ module _ (d n : ℕ) (some : 1 ≤ d) (most : d ≤ n) where
   K = someCells d n
 
   -- past level d the sum has an XOR
-  sum-plain : (i x : ℕ) (l : Level) (w k : ℕ) → k ≡ min 1 (i - d) → Plain k (sumGates K i x l w)
+  sum-plain : (i x : ℕ) (l : CellLevel) (w k : ℕ) → k ≡ min 1 (i - d) → Plain k (sumGates K i x l w)
   unfolding sumGates
   sum-plain i x l w k e = elim (decLt i d) [
     | yes p ↦ (let t : ltb i d ≡ true = lt-ltb i d p in rw t (omega arith))
@@ -79,7 +79,7 @@ module _ (d n : ℕ) (some : 1 ≤ d) (most : d ≤ n) where
       go true h f g = omega (arith, f refl)
       go false h f g = omega (arith, g refl)
 
-  level-plain : (i x : ℕ) (l : Level) → 2 ≤ i → i ≤ n → Plain ((1 - (d + i - n)) + min 1 (i - d)) (levelGates K i x l)
+  level-plain : (i x : ℕ) (l : CellLevel) → 2 ≤ i → i ≤ n → Plain ((1 - (d + i - n)) + min 1 (i - d)) (levelGates K i x l)
   unfolding levelGates
   level-plain i x l h k =
       let row = rowGates i x (l .cell) (l .next) (d + i - n) (keptAt K i) in
@@ -88,7 +88,7 @@ module _ (d n : ℕ) (some : 1 ≤ d) (most : d ≤ n) where
       (row-plain i x (l .cell) (l .next) (d + i - n) (keptAt K i) _ (omega arith) refl)
       (sum-plain i x l w _ refl)
 
-  levels-plain : (xs : List ℕ) (i : ℕ) (l : Level) → 2 ≤ i → i + length xs ≡ suc n → Plain (notsFrom d n i + xorsFrom d n i) (levelsGates K i xs l)
+  levels-plain : (xs : List ℕ) (i : ℕ) (l : CellLevel) → 2 ≤ i → i + length xs ≡ suc n → Plain (notsFrom d n i + xorsFrom d n i) (levelsGates K i xs l)
   unfolding levelsGates
   levels-plain [] i l h e = omega arith
   levels-plain (x ∷ xs) i l h e =

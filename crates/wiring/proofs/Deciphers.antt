@@ -8,7 +8,7 @@ use native.Mathlib.Nat.{mul-le-mul-right, suc-mul, zero-mul}
 use lib.ListN.{length, getD, take, drop, replicate, length-append, length-take, length-drop, length-replicate, getD-replicate, take-append-drop, drop-of-length-le, List·getD-append}
 use lib.Seq.{getD-append-add, getD-drop, drop-drop}
 use Rattle.netlist.specs.declared.gate.Gate.{Gate}
-use Rattle.netlist.specs.Net.{Alg, at, run, eval, depth, mults, maxOf, valAlg, depAlg, mulsOf, Wired, Below, Valid}
+use Rattle.netlist.specs.Net.{Alg, at, run, eval, depth, mults, maxOf, valAlg, depAlg, mulsOf, GatesWired, Below, Valid}
 use Rattle.netlist.specs.Part.{past, Carries, Sits}
 use Rattle.netlist.proofs.Sim.{run-append, run-length, run-keeps}
 use Rattle.netlist.proofs.Glued.{muls-append, wired-append}
@@ -128,7 +128,7 @@ module _ (S : ℕ → Split) (inst : ℕ) (idx wh : List ℕ) where
 
   bits-valid : (m : ℕ) → ((i next : ℕ) → i < m → keyBits inst + m ≤ next → Sits next (partAt S inst idx wh i next))
       → (k i next : ℕ) → i + k ≤ m → keyBits inst + m ≤ next
-      → Wired next (bitsGates S inst idx wh k i next) × Below (next + length (bitsGates S inst idx wh k i next)) (bitsOuts S inst idx wh k i next)
+      → GatesWired next (bitsGates S inst idx wh k i next) × Below (next + length (bitsGates S inst idx wh k i next)) (bitsOuts S inst idx wh k i next)
   unfolding bitsGates bitsOuts past
   bits-valid m c zero i next h t = (tt, tt)
   bits-valid m c (suc k) i next h t =

@@ -5,7 +5,7 @@ use mathlib.Core.List.{List, [], _∷_, _++_, map}
 use native.Mathlib.Omega.{arith}
 use lib.ListN.{length, getD, take, length-take, List·getD-append}
 use lib.Seq.{getD-at, take-suc}
-use Rattle.netlist.specs.Net.{Alg, at, run, valAlg, mulsOf, Wired}
+use Rattle.netlist.specs.Net.{Alg, at, run, valAlg, mulsOf, GatesWired}
 use Rattle.netlist.proofs.Sim.{run-keeps, length-snoc}
 use Rattle.filter.specs.Filter.{var, tab, ones}
 use Rattle.wiring.specs.Decipher.{nots, vars}
@@ -43,7 +43,7 @@ module _ {X : Type 0} (A : Alg X) where
       (nots-carry u v′ ps ws (suc next) (omega (arith, length-snoc v x)) (all-map ps (old-snoc u v x) (a .1)))
 
 -- ---- where they stand
-pub nots-wired : (m : ℕ) (row ws : List ℕ) → All (λ p. p < m) row → Wired m (nots row ws)
+pub nots-wired : (m : ℕ) (row ws : List ℕ) → All (λ p. p < m) row → GatesWired m (nots row ws)
 unfolding nots
 nots-wired m [] ws a = tt
 nots-wired m (p ∷ ps) [] a = nots-wired m ps [] (a .1)

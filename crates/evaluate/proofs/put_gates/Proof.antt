@@ -1,6 +1,6 @@
 use Prim.Native.Nat.{ℕ, _+_, _≤_, _-_}
 use lib.ListN.{getD, length}
-use Rattle.netlist.specs.declared.gate.Taken.the-variants.{Valid}
+use Rattle.netlist.specs.declared.gate.Taken.the-variants.{Known}
 use Rattle.netlist.specs.Words.{gatePlace, gateAt}
 use Rattle.netlist.proofs.Gates.{not-unknown, same-gate}
 use mathlib.Core.Path.{_≡_, _∙_}
@@ -39,7 +39,7 @@ low : (c : tie.After-take-apart Inv-loop μ-loop) →
 low c = start (turn c) .pre .low _ (turn c .loop-test .taken)
 
 -- the gate at the loop's place is of a known kind
-known : (c : tie.After-take-apart Inv-loop μ-loop) → c .take-apart .result ≡ Valid (gateAt (start (turn c) .args .net .now) (gatePlace (number (turn c))))
+known : (c : tie.After-take-apart Inv-loop μ-loop) → c .take-apart .result ≡ Known (gateAt (start (turn c) .args .net .now) (gatePlace (number (turn c))))
 known c = c .take-apart .ensures ∙ start (turn c) .pre .known _ (turn c .loop-test .taken)
 
 loop-holds : tie.Need-loop-holds Inv-loop μ-loop

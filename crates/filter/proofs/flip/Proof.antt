@@ -2,7 +2,7 @@ use Prim.Native.Nat.{_+_, _*_}
 use mathlib.Core.List.{_++_}
 use lib.ListN.{replicate}
 use Rattle.answer.proofs.Over.{tail-is}
-use Rattle.filter.specs.Instances.{upTo, copies}
+use Rattle.filter.specs.Instances.{degreesTo, copies}
 use Rattle.filter.proofs.Published.{before-pairs, before-triangles}
 use Rattle.filter.proofs.Parts.{join}
 use borrow.Author.Needs.{needs}
@@ -48,7 +48,7 @@ returns c =
     let first = second .before .before in
     let a = first .before .before .args in
     let x = a .x .now in
-    join (replicate (a .linear) 1 ++ replicate (a .pairs) 2) (copies 8 (upTo (a .k))) x (before-triangles (a .linear) (a .pairs)) (tail-is (a .linear + 2 * a .pairs) x)
+    join (replicate (a .linear) 1 ++ replicate (a .pairs) 2) (copies 8 (degreesTo (a .k))) x (before-triangles (a .linear) (a .pairs)) (tail-is (a .linear + 2 * a .pairs) x)
     (join (replicate (a .linear) 1) (replicate (a .pairs) 2) x (before-pairs (a .linear)) (tail-is (a .linear) x) (first .sum-equal .ensures) (second .sum-equal2 .ensures))
     (c .triangles .ensures)
 

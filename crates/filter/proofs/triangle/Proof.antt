@@ -1,7 +1,7 @@
 use Prim.Native.Nat.{_+_, _-_, _≤_}
 use native.Mathlib.Omega.{arith}
 use lib.ListN.{length}
-use Rattle.filter.specs.Instances.{upTo}
+use Rattle.filter.specs.Instances.{degreesTo}
 use Rattle.filter.proofs.Sums.{sum-end}
 use Rattle.filter.proofs.Published.{triangle-total}
 use Rattle.filter.proofs.Parts.{Part, part-start, part-room, part-step, upTo-length, upTo-at}
@@ -10,7 +10,7 @@ use Rattle.filter.proofs.triangle.Statement.{statement}
 use Rattle.filter.proofs.triangle.Tie as tie
 
 abbrev Inv-loop : tie.InvT-loop
-Inv-loop k x sum₀ at₀ j₀ sum at j = Part (upTo k) x sum at j
+Inv-loop k x sum₀ at₀ j₀ sum at j = Part (degreesTo k) x sum at j
 
 abbrev μ-loop : tie.MeasureT-loop
 μ-loop k x sum₀ at₀ j₀ sum at j = k - j
@@ -20,10 +20,10 @@ room : (c : tie.In-loop Inv-loop μ-loop) → c .before .loop .at + (c .before .
 room c =
     let l = c .before .loop in
     let a = c .before .before .before .args in
-    part-room (upTo (a .k)) (a .x .now) (l .sum) (l .at) (l .j) (l .j + 1) (l .inv) (omega (arith, upTo-length (a .k))) (upTo-at (a .k) (l .j) (search needs))
+    part-room (degreesTo (a .k)) (a .x .now) (l .sum) (l .at) (l .j) (l .j + 1) (l .inv) (omega (arith, upTo-length (a .k))) (upTo-at (a .k) (l .j) (search needs))
 
 loop-holds : tie.Need-loop-holds Inv-loop μ-loop
-loop-holds c = part-start (upTo (c .before .args .k)) (c .before .args .x .now) (omega (arith, triangle-total (c .before .args .k)))
+loop-holds c = part-start (degreesTo (c .before .args .k)) (c .before .args .x .now) (omega (arith, triangle-total (c .before .args .k)))
 
 add-j : tie.Need-add-j Inv-loop μ-loop
 add-j c = search needs
@@ -54,12 +54,12 @@ loop-again c =
     let turn = c .before .before .before in
     let l = turn .loop in
     let a = turn .before .before .args in
-    part-step (upTo (a .k)) (a .x .now) (l .sum) (l .at) (l .j) (l .j + 1) _ (l .inv) (omega (arith, upTo-length (a .k))) (upTo-at (a .k) (l .j) (search needs)) (c .product .ensures)
+    part-step (degreesTo (a .k)) (a .x .now) (l .sum) (l .at) (l .j) (l .j + 1) _ (l .inv) (omega (arith, upTo-length (a .k))) (upTo-at (a .k) (l .j) (search needs)) (c .product .ensures)
 
 returns : tie.Need-returns Inv-loop μ-loop
 returns c =
     let a = c .before .before .before .args in
-    sum-end (upTo (a .k)) (a .x .now) _ _ _ (c .before .loop .inv .0) (omega (arith, upTo-length (a .k)))
+    sum-end (degreesTo (a .k)) (a .x .now) _ _ _ (c .before .loop .inv .0) (omega (arith, upTo-length (a .k)))
 
 pub triangle-spec : {M : Type 1} → statement M
 triangle-spec =

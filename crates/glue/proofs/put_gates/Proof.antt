@@ -6,7 +6,7 @@ use lib.ListN.{length, getD}
 use Rattle.answer.specs.Fronts.{over}
 use Rattle.answer.proofs.Over.{length-over}
 use Rattle.netlist.specs.declared.gate.Gate.{Gate}
-use Rattle.netlist.specs.declared.gate.Taken.the-variants.{Valid}
+use Rattle.netlist.specs.declared.gate.Taken.the-variants.{Known}
 use Rattle.netlist.specs.Gates.{usesOf}
 use Rattle.netlist.specs.Words.{headerWords, gatesOf, gatePlace, gatesWords, gateAt, gatesAt}
 use Rattle.netlist.specs.Glue.{ren, thru}
@@ -43,7 +43,7 @@ gate c = gateAt (lent (turn c) .args .second .now) (gatePlace (turn c .loop .g))
 less : (c : tie.After-take-apart Inv-loop μ-loop) → turn c .loop .g < gatesOf (lent (turn c) .args .second .now)
 less c = omega (arith, entered c .loop-test .taken, lent (turn c) .pre .1)
 
-known : (c : tie.After-take-apart Inv-loop μ-loop) → c .take-apart .result ≡ Valid (gate c)
+known : (c : tie.After-take-apart Inv-loop μ-loop) → c .take-apart .result ≡ Known (gate c)
 known c = c .take-apart .ensures ∙ taken-known _ _ _ _ (lent (turn c) .pre .0 .sound .whole _ (less c))
 
 bits-by : {g h : Gate} {r : ℕ} → r ≡ 2 ^ usesOf g - 1 → g ≡ h → UsedBits (usesOf h) r

@@ -5,7 +5,7 @@ use native.Mathlib.Omega.{arith}
 use denote.Ref.{now}
 use Rattle.answer.specs.Fronts.{over}
 use Rattle.netlist.specs.Words.{countsOf, inputsOf, gatesOf}
-use Rattle.meter.specs.InnerDepths.{depthsTo, Lent}
+use Rattle.meter.specs.InnerDepths.{depthsTo, DepthsLent}
 use Rattle.meter.proofs.Judged.{judged-lent, unmeasured, long, outs-stand, measured}
 use borrow.Author.Needs.{needs}
 use Rattle.meter.proofs.measure.Statement.{statement}
@@ -28,7 +28,7 @@ abbrev room : tie.After-counts-of → List ℕ
 room c = now (judged c .before .before .before .args .depths)
 
 -- the judge said Done; the counts are the netlist's; the depths are filled
-lent : (c : tie.After-counts-of) → Lent (words c) (inputsOf (words c)) (gatesOf (words c)) (room c)
+lent : (c : tie.After-counts-of) → DepthsLent (words c) (inputsOf (words c)) (gatesOf (words c)) (room c)
 lent c = judged-lent (judged c .judge .ensures) (c .before .enum-told .given .1)
 
 counted : (c : tie.After-counts-of) → c .counts-of .result ≡ countsOf (words c)

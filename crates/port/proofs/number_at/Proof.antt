@@ -2,7 +2,7 @@ use Prim.Native.Nat.{_≤_, _<_, _-_, _^_}
 use mathlib.Core.Path.{_≡_, ap, _∙_}
 use native.Mathlib.Omega.{arith}
 use denote.Ref.{now}
-use Rattle.port.specs.Bytes.{digits}
+use Rattle.port.specs.Bytes.{valueAt}
 use Rattle.port.proofs.Digits.{digits-none, digits-more}
 use Rattle.port.proofs.Layouts.{read-small}
 use borrow.Author.Needs.{needs}
@@ -10,7 +10,7 @@ use Rattle.port.proofs.number_at.Statement.{statement}
 use Rattle.port.proofs.number_at.Tie as tie
 
 abbrev Inv-loop : tie.InvT-loop
-Inv-loop s at n x₀ i₀ x i = (i ≤ n) × (x ≡ digits 2 s at i)
+Inv-loop s at n x₀ i₀ x i = (i ≤ n) × (x ≡ valueAt 2 s at i)
 
 abbrev μ-loop : tie.MeasureT-loop
 μ-loop s at n x₀ i₀ x i = n - i
@@ -56,7 +56,7 @@ returns : tie.Need-returns Inv-loop μ-loop
 returns c =
     let l = c .before .loop in
     let a = c .before .before .before .args in
-    l .inv .1 ∙ ap (digits 2 (now (a .s)) (a .at)) (omega arith)
+    l .inv .1 ∙ ap (valueAt 2 (now (a .s)) (a .at)) (omega arith)
 
 pub number-at-spec : {M : Type 1} → statement M
 number-at-spec =

@@ -4,14 +4,14 @@ use native.Mathlib.Nat.{pow-suc}
 use native.Mathlib.Numerals.{add-one}
 use native.Mathlib.Omega.{arith}
 use denote.Ref.{now}
-use Rattle.port.specs.Bytes.{digits}
+use Rattle.port.specs.Bytes.{valueAt}
 use Rattle.port.proofs.Digits.{digits-none, digits-more, below-step, next-fits}
 use borrow.Author.Needs.{needs}
 use Rattle.sequence.proofs.eight_bytes.Statement.{statement}
 use Rattle.sequence.proofs.eight_bytes.Tie as tie
 
 abbrev Inv-loop : tie.InvT-loop
-Inv-loop s at x₀ i₀ x i = (i ≤ 8) × (x ≡ digits 256 s at i) × (x < 256 ^ i)
+Inv-loop s at x₀ i₀ x i = (i ≤ 8) × (x ≡ valueAt 256 s at i) × (x < 256 ^ i)
 
 abbrev μ-loop : tie.MeasureT-loop
 μ-loop s at x₀ i₀ x i = 8 - i
@@ -60,7 +60,7 @@ loop-again c =
 returns : tie.Need-returns Inv-loop μ-loop
 returns c =
     let a = c .before .before .before .args in
-    c .before .loop .inv .1 ∙ ap (digits 256 (now (a .s)) (a .at)) (omega arith)
+    c .before .loop .inv .1 ∙ ap (valueAt 256 (now (a .s)) (a .at)) (omega arith)
 
 pub eight-bytes-spec : {M : Type 1} → statement M
 eight-bytes-spec =

@@ -2,7 +2,7 @@ use Prim.Native.Nat.{_-_, _%_, _^_, _<_, _≤_}
 use mathlib.Core.Path.{_≡_, ap, _∙_}
 use native.Mathlib.Omega.{arith}
 use denote.Ref.{now}
-use Rattle.port.specs.Bytes.{digits}
+use Rattle.port.specs.Bytes.{valueAt}
 use Rattle.port.proofs.Digits.{digits-none}
 use Rattle.frames.proofs.Turned.{bits-tops}
 use Rattle.frames.proofs.Spreading.{digits-eight, eight-room}
@@ -11,7 +11,7 @@ use Rattle.frames.proofs.bytes.bit_word.Statement.{statement}
 use Rattle.frames.proofs.bytes.bit_word.Tie as tie
 
 abbrev Inv-loop : tie.InvT-loop
-Inv-loop s at x₀ i₀ x i = (i ≤ 64) × (i % 8 ≡ 0) × (x ≡ digits 2 s at i)
+Inv-loop s at x₀ i₀ x i = (i ≤ 64) × (i % 8 ≡ 0) × (x ≡ valueAt 2 s at i)
 
 abbrev μ-loop : tie.MeasureT-loop
 μ-loop s at x₀ i₀ x i = 64 - i
@@ -55,7 +55,7 @@ returns c =
     let s = c .before .before .before in
     let a = s .args in
     let e : c .before .loop .i ≡ 64 = omega arith in
-    let x : c .before .loop .x ≡ digits 2 (now (a .s)) (a .at) 64 = c .before .loop .inv .2 ∙ ap (digits 2 (now (a .s)) (a .at)) e in
+    let x : c .before .loop .x ≡ valueAt 2 (now (a .s)) (a .at) 64 = c .before .loop .inv .2 ∙ ap (valueAt 2 (now (a .s)) (a .at)) e in
     (x, bits-tops (now (a .s)) (a .at) _ x (s .pre .1) (s .pre .0))
 
 pub bit-word-spec : {M : Type 1} → statement M

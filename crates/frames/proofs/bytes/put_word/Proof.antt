@@ -7,14 +7,14 @@ use Rattle.answer.specs.Fronts.{over}
 use Rattle.filter.specs.Filter.{tab}
 use Rattle.filter.proofs.Tab.{tab-none, tab-more}
 use Rattle.kreyvium.specs.Words.{tops}
-use Rattle.port.specs.Bytes.{digits, packed}
+use Rattle.port.specs.Bytes.{valueAt, packed}
 use Rattle.frames.proofs.Turned.{word-byte}
 use borrow.Author.Needs.{needs}
 use Rattle.frames.proofs.bytes.put_word.Statement.{statement}
 use Rattle.frames.proofs.bytes.put_word.Tie as tie
 
 abbrev Inv-loop : tie.InvT-loop
-Inv-loop x out₀ i₀ out i = (out ≡ over (tab (λ k. digits 2 (tops 64 x) (8 * k) 8) i) out₀) × (i ≤ 8) × (length out ≡ length out₀)
+Inv-loop x out₀ i₀ out i = (out ≡ over (tab (λ k. valueAt 2 (tops 64 x) (8 * k) 8) i) out₀) × (i ≤ 8) × (length out ≡ length out₀)
 
 abbrev μ-loop : tie.MeasureT-loop
 μ-loop x out₀ i₀ out i = 8 - i
@@ -48,7 +48,7 @@ loop-again c =
     let l = c .before .loop in
     let s = c .before .before in
     let x = s .args .x in
-    (rw (l .inv .0) (tab-more (λ k. digits 2 (tops 64 x) (8 * k) 8) (now (s .args .out)) (l .i) _ (search needs) (word-byte x (l .i) (search needs))), search needs, search needs)
+    (rw (l .inv .0) (tab-more (λ k. valueAt 2 (tops 64 x) (8 * k) 8) (now (s .args .out)) (l .i) _ (search needs) (word-byte x (l .i) (search needs))), search needs, search needs)
 
 same-length : tie.Need-same-length Inv-loop μ-loop
 same-length c = search needs
@@ -59,7 +59,7 @@ returns c =
     let s = c .before .before in
     let e : c .before .loop .i ≡ 8 = omega arith in
     c .before .loop .inv .0
-    ∙ ap (λ (n : ℕ). over (tab (λ k. digits 2 (tops 64 (s .args .x)) (8 * k) 8) n) (now (s .args .out))) e
+    ∙ ap (λ (n : ℕ). over (tab (λ k. valueAt 2 (tops 64 (s .args .x)) (8 * k) 8) n) (now (s .args .out))) e
 
 pub put-word-spec : {M : Type 1} → statement M
 put-word-spec =

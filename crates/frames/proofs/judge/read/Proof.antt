@@ -1,7 +1,7 @@
 use mathlib.Core.Path.{sym, _∙_}
 use native.Mathlib.Omega.{arith}
 use Rattle.answer.proofs.Rows.{stop, go}
-use Rattle.frames.specs.Frames.{readAnswer}
+use Rattle.frames.specs.Frames.{framesReadAnswer}
 use Rattle.frames.proofs.Judged.{file-whole}
 use borrow.Author.Needs.{needs}
 use Rattle.frames.proofs.judge.read.Statement.{statement}
@@ -17,7 +17,7 @@ enum-told-2 : tie.Need-enum-told-2
 enum-told-2 c = search needs
 
 returns : tie.Need-returns
-unfolding readAnswer
+unfolding framesReadAnswer
 returns c = stop _ (c .before .before .key-length .ensures) (c .enum-told2 .given .1)
 
 key-bits-requires : tie.Need-key-bits-requires
@@ -30,7 +30,7 @@ enum-told-4 : tie.Need-enum-told-4
 enum-told-4 c = search needs
 
 returns-2 : tie.Need-returns-2
-unfolding readAnswer
+unfolding framesReadAnswer
 returns-2 c =
     let b = c .before .before in
     let e = b .before .before .before in
@@ -46,7 +46,7 @@ enum-told-6 : tie.Need-enum-told-6
 enum-told-6 c = search needs
 
 returns-3 : tie.Need-returns-3
-unfolding readAnswer
+unfolding framesReadAnswer
 returns-3 c =
     let f = c .before .before in
     let b = f .before .before .before in
@@ -59,7 +59,7 @@ records-room-requires c κs =
     omega (arith, w .size)
 
 returns-4 : tie.Need-returns-4
-unfolding readAnswer
+unfolding framesReadAnswer
 returns-4 c =
     let f = c .before .before .before in
     let b = f .before .before .before in

@@ -10,7 +10,7 @@ use Rattle.instance.specs.Keys.{keyIn}
 use Rattle.kreyvium.specs.Words.{tops}
 use Rattle.kreyvium.specs.Kreyvium.{streamOf}
 use Rattle.port.specs.Bytes.{unpacked}
-use Rattle.sequence.specs.Files.{frameSize, start, framesIn, wordAt}
+use Rattle.sequence.specs.Files.{frameSize, start, framesIn, ivWordAt}
 use Rattle.frames.specs.Frames.{recordsIn}
 use Rattle.frames.proofs.Turned.{bytes-tops}
 use Rattle.frames.proofs.Sealing.{records-none, records-more, record-read}
@@ -87,7 +87,7 @@ loop-again c =
     let n = l .at / frameSize in
     let e : l .at ≡ start n = l .inv .0 in
     let known = words .before .before .shared-slice-known2 .given in
-    let wordOf : (m x : ℕ) → m + 8 ≤ frameSize → x ≡ wordAt file (l .at + m) → tops 64 x ≡ unpacked file (start n + m) 64 = λ m x h q.
+    let wordOf : (m x : ℕ) → m + 8 ≤ frameSize → x ≡ ivWordAt file (l .at + m) → tops 64 x ≡ unpacked file (start n + m) 64 = λ m x h q.
     bytes-tops file (l .at + m) x q (omega (arith, left (first .before))) (λ k g. omega (arith, known (l .at + m + k))) ∙ ap (λ (j : ℕ). unpacked file (j + m) 64) e in
     let x = record-read bits file n _ _ _ _ (wordOf 2 _ (omega arith) (first .word .ensures)) (wordOf 10 _ (omega arith) (second .word2 .ensures)) (wordOf 18 _ (omega arith) (third .word3 .ensures))
     (cross .crossed .ensures ∙ ap (λ (t : List ℕ). added (tops 64 (third .word3 .result)) (streamOf t (tops 64 (first .word .result) ++ tops 64 (second .word2 .result)) 64)) (words .key-words .ensures)) in

@@ -4,7 +4,7 @@ use denote.Ref.{now}
 use Rattle.netlist.specs.declared.gate.Gate.{Gate}
 use Rattle.netlist.specs.declared.gate.Gate.the-variants.{Zero}
 use Rattle.netlist.specs.declared.gate.Taken.{Taken}
-use Rattle.netlist.specs.declared.gate.Taken.the-variants.{Valid, Unknown}
+use Rattle.netlist.specs.declared.gate.Taken.the-variants.{Known, Unknown}
 use Rattle.netlist.specs.Gates.{takenOf, gateOf}
 use Rattle.netlist.specs.Words.{gateAt}
 use Rattle.text.proofs.Netlists.{decoded-gate}
@@ -13,7 +13,7 @@ use Rattle.text.proofs.gates.gate_at.Statement.{statement}
 use Rattle.text.proofs.gates.gate_at.Tie as tie
 
 -- the gate that was taken apart, and what stands for no kind
-valid-gate : (k a b c : ℕ) {t : Taken} {g : Gate} → t ≡ takenOf k a b c → t ≡ Valid g → g ≡ gateOf k a b c
+valid-gate : (k a b c : ℕ) {t : Taken} {g : Gate} → t ≡ takenOf k a b c → t ≡ Known g → g ≡ gateOf k a b c
 unfolding gateOf
 valid-gate k a b c e f = rw (sym e ∙ f)
 

@@ -3,13 +3,13 @@ use mathlib.Core.Path.{_≡_}
 use native.Mathlib.Omega.{arith}
 use Rattle.netlist.specs.Words.{headerWords, gateStride, gatePlace, gatesAt}
 use Rattle.text.specs.Text.{gateLines}
-use Rattle.text.proofs.Parts.{Left, left-start, left-step, left-room, left-end}
+use Rattle.text.proofs.Parts.{TextLeft, left-start, left-step, left-room, left-end}
 use Rattle.text.proofs.Netlists.{gates-turn, gates-none}
 use Rattle.text.proofs.gates.put_gates.Statement.{statement}
 use Rattle.text.proofs.gates.put_gates.Tie as tie
 
 abbrev Inv-loop : tie.InvT-loop
-Inv-loop out₀ at words inputs gates next₀ place₀ wire₀ left₀ out next place wire left = Left (gateLines inputs (gatesAt words headerWords gates)) out₀ at (gateLines wire (gatesAt words place left)) out next × (place + gateStride * left ≡ gatePlace gates) × (wire + left ≡ inputs + gates)
+Inv-loop out₀ at words inputs gates next₀ place₀ wire₀ left₀ out next place wire left = TextLeft (gateLines inputs (gatesAt words headerWords gates)) out₀ at (gateLines wire (gatesAt words place left)) out next × (place + gateStride * left ≡ gatePlace gates) × (wire + left ≡ inputs + gates)
 
 abbrev μ-loop : tie.MeasureT-loop
 μ-loop out₀ at words inputs gates next₀ place₀ wire₀ left₀ out next place wire left = left

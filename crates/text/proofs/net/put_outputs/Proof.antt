@@ -2,13 +2,13 @@ use Prim.Native.Nat.{_-_}
 use borrow.Author.Needs.{needs}
 use lib.ListN.{length, drop}
 use Rattle.text.specs.Text.{outLines}
-use Rattle.text.proofs.Parts.{Left, left-start, left-step, left-room, left-end}
+use Rattle.text.proofs.Parts.{TextLeft, left-start, left-step, left-room, left-end}
 use Rattle.text.proofs.Netlists.{outs-turn, outs-none}
 use Rattle.text.proofs.net.put_outputs.Statement.{statement}
 use Rattle.text.proofs.net.put_outputs.Tie as tie
 
 abbrev Inv-loop : tie.InvT-loop
-Inv-loop out₀ at words place next₀ i₀ out next i = Left (outLines (drop place words)) out₀ at (outLines (drop i words)) out next
+Inv-loop out₀ at words place next₀ i₀ out next i = TextLeft (outLines (drop place words)) out₀ at (outLines (drop i words)) out next
 
 abbrev μ-loop : tie.MeasureT-loop
 μ-loop out₀ at words place next₀ i₀ out next i = length words - i

@@ -1,6 +1,6 @@
 use native.Mathlib.Omega.{arith}
 use mathlib.Core.Path.{sym, subst, _∙_}
-use Rattle.text.specs.Inner.{Room, Wrote}
+use Rattle.text.specs.Inner.{Room, WroteText}
 use mathlib.Core.List.{List}
 use Rattle.line.proofs.Decimals.{decimal-low, decimal-high}
 use Rattle.text.proofs.Parts.{first-room, next-room, wrote-then, wrote-size}
@@ -48,7 +48,7 @@ put-decimal-returns : (t : ℕ) → put-decimal-lts.Need-returns (
   put-decimal-below t,
   put-decimal.Post,
 ) (put-decimal-at t) put-decimal.Post
-put-decimal-returns t c = subst (λ (t : List ℕ). Wrote t (now (c .before .before .before .before .before .before .args .out)) (c .before .before .before .before .before .before .args .at) (c .before .before .put-digit .last .0) (c .before .before .put-digit .result)) (sym (decimal-low (c .before .before .before .before .before .before .args .n) (c .before .before .before .before .if1 .taken))) (c .before .before .put-digit .ensures)
+put-decimal-returns t c = subst (λ (t : List ℕ). WroteText t (now (c .before .before .before .before .before .before .args .out)) (c .before .before .before .before .before .before .args .at) (c .before .before .put-digit .last .0) (c .before .before .put-digit .result)) (sym (decimal-low (c .before .before .before .before .before .before .args .n) (c .before .before .before .before .if1 .taken))) (c .before .before .put-digit .ensures)
 
 put-decimal-put-decimal-requires : (t : ℕ) → put-decimal-lts.Need-put-decimal-requires (
   put-digit-reads.Asked,
@@ -80,7 +80,7 @@ put-decimal-returns-2 : (t : ℕ) → put-decimal-lts.Need-returns-2 (
   put-decimal-below t,
   put-decimal.Post,
 ) (put-decimal-at t) put-decimal.Post
-put-decimal-returns-2 t c = subst (λ (t : List ℕ). Wrote t (now (c .before .before .before .before .before .before .before .before .before .before .args .out)) (c .before .before .before .before .before .before .before .before .before .before .args .at) (c .before .before .put-digit2 .last .0) (c .before .before .put-digit2 .result)) (sym (decimal-high (c .before .before .before .before .before .before .before .before .before .before .args .n) (c .before .before .before .before .before .before .before .before .if1 .left))) (wrote-then (c .before .before .before .before .before .before .put-decimal .ensures) (c .before .before .put-digit2 .ensures))
+put-decimal-returns-2 t c = subst (λ (t : List ℕ). WroteText t (now (c .before .before .before .before .before .before .before .before .before .before .args .out)) (c .before .before .before .before .before .before .before .before .before .before .args .at) (c .before .before .put-digit2 .last .0) (c .before .before .put-digit2 .result)) (sym (decimal-high (c .before .before .before .before .before .before .before .before .before .before .args .n) (c .before .before .before .before .before .before .before .before .if1 .left))) (wrote-then (c .before .before .before .before .before .before .put-decimal .ensures) (c .before .before .put-digit2 .ensures))
 
 pub +put-decimal-spec : {M : Type 1} → statement M
 +put-decimal-spec = close μ-put-decimal λ t. put-decimal-lts.spec (

@@ -2,12 +2,12 @@ use Prim.Native.Nat.{_+_, _-_, _≤_}
 use mathlib.Core.Path.{_≡_}
 use native.Mathlib.Omega.{arith}
 use lib.ListN.{length, drop, drop-of-length-le}
-use Rattle.text.proofs.Parts.{Left, left-start, left-step, left-end, rest-of, wrote-byte}
+use Rattle.text.proofs.Parts.{TextLeft, left-start, left-step, left-end, rest-of, wrote-byte}
 use Rattle.text.proofs.put.put_bytes.Statement.{statement}
 use Rattle.text.proofs.put.put_bytes.Tie as tie
 
 abbrev Inv-loop : tie.InvT-loop
-Inv-loop out₀ at bytes i₀ j₀ out i j = Left bytes out₀ at (drop j bytes) out i × (i ≡ at + j) × (j ≤ length bytes)
+Inv-loop out₀ at bytes i₀ j₀ out i j = TextLeft bytes out₀ at (drop j bytes) out i × (i ≡ at + j) × (j ≤ length bytes)
 
 abbrev μ-loop : tie.MeasureT-loop
 μ-loop out₀ at bytes i₀ j₀ out i j = length bytes - j
