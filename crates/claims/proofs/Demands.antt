@@ -162,7 +162,7 @@ emitted-metered inst m idx wh out ds ls {q} {r} {out′} {ds′} {ls′} wired h
       w .0,
       meter-accepts W r s c,
       λ h. let n : inst ≡ 6 → ⊥ = λ e. omega arith in
-          (d ∙ emitted-depth inst m idx wh l n, k ∙ emitted-mults inst m idx wh wired n),
+          (d ∙ emitted-depth inst m idx wh wired n, k ∙ emitted-mults inst m idx wh wired n),
       λ e. (omega (arith, d, ap depth (net-kreyvium inst m idx wh e), kreyvium-depth wh m (iv-lent inst m idx wh wired e), wired .some), k ∙ kreyvium-emitted-mults inst m idx wh wired e),
     )
 

@@ -1,4 +1,5 @@
 -- A sound netlist is accepted by the meter, and the numbers it returns are the netlist's.
+use Prim.Native.Nat.{ℕ}
 use mathlib.Core.Path.{_≡_, sym, _∙_}
 use mathlib.Core.List.{List}
 use Rattle.answer.specs.declared.Answer.the-variants.{Done}

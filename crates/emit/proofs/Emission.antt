@@ -3,7 +3,7 @@ use Prim.Native.Nat.{ℕ, _+_, _*_, _/_, _<_, _≤_}
 use mathlib.Core.Path.{_≡_, sym, ap, _∙_}
 use mathlib.Core.List.{List}
 use native.Mathlib.Omega.{arith}
-use lib.ListN.{length, getD, replicate}
+use lib.ListN.{getD, replicate}
 use Rattle.netlist.specs.Net.{Net, depth, mults, depAlg, outsOf}
 use Rattle.netlist.specs.Words.{inputsOf, outputsOf, words}
 use Rattle.netlist.specs.Sound.{Sound}

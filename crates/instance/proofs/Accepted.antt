@@ -1,6 +1,6 @@
 -- The judges of numbers, lengths, rows and whitening accept a wiring exactly if it is what the rules let a caller lend.
 use Prim.Native.Nat.{ℕ, zero, suc, _+_, _-_, _*_, _/_, _%_, _<_, _≤_}
-use mathlib.Core.Bool.{Bool, true, false, not}
+use mathlib.Core.Bool.{Bool, true, false}
 use mathlib.Core.Path.{_≡_, refl, sym, ap, _∙_}
 use mathlib.Core.List.{List, []}
 use native.Mathlib.Decide.{decLe}
@@ -9,7 +9,7 @@ use native.Mathlib.Omega.{arith}
 use lib.Arith.{digits-lt, digits-mod}
 use lib.Dec.{ltb}
 use lib.ListN.{length, getD}
-use borrow.Author.Tests.{eq-eqb, eqb-false, ne-eqb, le-ltb, ltb-false, lt-leb}
+use borrow.Author.Tests.{eqb-false, ne-eqb, le-ltb, ltb-false, lt-leb}
 use Rattle.answer.specs.declared.Answer.the-variants.{Done}
 use Rattle.answer.specs.Judges.{firstAnswer}
 use Rattle.answer.specs.Bits.{bitsAnswer}

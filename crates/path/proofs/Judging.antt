@@ -1,5 +1,5 @@
 -- What score answers, from what its judges do: 1 to 7 are those of enciphering, in the parts that the code has.
-use Prim.Native.Nat.{ℕ, _+_, _*_}
+use Prim.Native.Nat.{ℕ, _+_}
 use mathlib.Core.Path.{_≡_, refl, sym, ap, ap₂, _∙_}
 use mathlib.Core.Bool.{not}
 use mathlib.Core.List.{List}

@@ -7,7 +7,7 @@ use lib.ListN.{length, take, length-append}
 use Rattle.answer.specs.declared.Answer.{Answer}
 use Rattle.answer.specs.declared.Answer.the-variants.{Done, Refused}
 use Rattle.answer.specs.Fronts.{over}
-use Rattle.answer.proofs.Over.{take-over, over-at, length-over, kept, made}
+use Rattle.answer.proofs.Over.{take-over, length-over, kept, made}
 use Rattle.netlist.specs.Net.{Net, values, eval}
 use Rattle.netlist.specs.Words.{wordCount, words, netOf}
 use Rattle.netlist.specs.Glue.{glue}
