@@ -24,7 +24,7 @@ pub record Edges : Type 0 where
   -- monomials [1,1] on 1,1,1: 0, by the vector and by the degrees, one of 1 and one of 2; triangle of degree 2 on 0,1,1: 1
   pub monomials : directSum 1 (1 ∷ 1 ∷ []) 0 (λ i. getD (1 ∷ 1 ∷ 1 ∷ []) i 0) ≡ 0
   pub monomials-by-degree : sumOf (1 ∷ 2 ∷ []) (1 ∷ 1 ∷ 1 ∷ []) ≡ 0
-  pub triangle : sumOf (instances.upTo 2) (0 ∷ 1 ∷ 1 ∷ []) ≡ 1
+  pub triangle : sumOf (instances.degreesTo 2) (0 ∷ 1 ∷ 1 ∷ []) ≡ 1
   -- XOR of 2 with 2 of 3 on 1,0,0,1,1: 0
   pub xor-threshold : (sumOf (1 ∷ 1 ∷ []) (1 ∷ 0 ∷ 0 ∷ 1 ∷ 1 ∷ []) + threshold 2 (take 3 (drop 2 (1 ∷ 0 ∷ 0 ∷ 1 ∷ 1 ∷ [])))) % 2 ≡ 0
   -- N = 4, draws 2,2,0: row 2,3,0
