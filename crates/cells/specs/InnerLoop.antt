@@ -1,5 +1,5 @@
--- Inner: what contracts of private functions cite, and no promise that a caller reads. The cells as a loop writes them: level
--- by level, with counts that go down. proofs/Same.antt: these are the gates of specs/Cells.antt.
+-- Inner: only contracts of private functions cite this. The cells as a loop writes them: level by level, with counts that
+-- go down. proofs/Same.antt: these are the gates of specs/Cells.antt.
 use mathlib.Core.List.{List, [], _∷_, _++_}
 use Prim.Native.Nat.{ℕ, zero, suc, _+_, _-_, _*_}
 use Rattle.netlist.specs.declared.gate.Gate.{Gate}

@@ -1,4 +1,4 @@
--- For private functions alone: draws that were judged.
+-- Inner: only contracts of private functions cite this. Draws that were judged.
 use Prim.Native.Nat.{ℕ, _+_, _<_, _≤_}
 use mathlib.Core.List.{List}
 use lib.ListN.{length, getD}

@@ -1,4 +1,5 @@
--- For private functions alone: what a caller lends the rows' code, and bits side by side in a word.
+-- Inner: only contracts of private functions cite this. What a caller lends the rows' code, and bits side by side in a
+-- word.
 use Prim.Native.Nat.{ℕ, _+_, _*_, _/_, _%_, _^_, _<_, _≤_}
 use mathlib.Core.List.{List}
 use lib.ListN.{length, getD}

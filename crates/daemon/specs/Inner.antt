@@ -1,4 +1,4 @@
--- How lists are counted. Only promises of private functions cite this.
+-- Inner: only contracts of private functions cite this. How lists are counted.
 use Prim.Native.Nat.{_-_}
 use lib.Dec.{ltb}
 use Rattle.answer.specs.declared.Answer.{Answer}

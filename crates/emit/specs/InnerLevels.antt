@@ -1,6 +1,5 @@
--- Inner: what contracts of this crate's private functions cite, and no promise that a caller reads. A run of levels as the code's
--- `LevelRow` has it: the gates of one level, and where the next begins. All of it is crates/cells/specs/InnerLoop.antt with the numbers
--- of a row in one value.
+-- Inner: only contracts of private functions cite this. A run of levels as the code's `LevelRow` has it: the gates of one
+-- level, and where the next begins. All of it is crates/cells/specs/InnerLoop.antt with the numbers of a row in one value.
 use mathlib.Core.List.{List, _++_}
 use Prim.Native.Nat.{ℕ, _+_, _-_, _*_, _≤_, _<_}
 use Rattle.netlist.specs.declared.gate.Gate.{Gate}

@@ -1,5 +1,5 @@
--- Inner: what contracts of this crate's private functions cite, and no promise that a caller reads. What the writers of a
--- deciphering netlist of instances 1 to 5 speak of.
+-- Inner: only contracts of private functions cite this. What the writers of a deciphering netlist of instances 1 to 5 speak
+-- of.
 use Prim.Native.Nat.{ℕ, zero, suc, _≤_}
 use mathlib.Core.List.{List, [], _∷_, _++_}
 use lib.ListN.{length}

@@ -1,5 +1,5 @@
--- Inner: what contracts of this crate's private functions cite, and no promise that a caller reads. A gate's values as one number;
--- the walks over the gates and the outputs: what each has written after n of them, and what it asks.
+-- Inner: only contracts of private functions cite this. A gate's values as one number; the walks over the gates and the
+-- outputs: what each has written after n of them, and what it asks.
 use Prim.Native.Nat.{ℕ, _+_, _*_, _/_, _%_, _^_, _<_, _≤_}
 use mathlib.Core.Path.{_≡_}
 use mathlib.Core.List.{List, map}

@@ -1,4 +1,4 @@
--- Inner: what the contracts of private functions cite. What a step of writing hands to the next.
+-- Inner: only contracts of private functions cite this. What a step of writing hands to the next.
 use Prim.Native.Nat.{ℕ, _+_, _<_, _≤_}
 use mathlib.Core.List.{List}
 use lib.ListN.{length, getD}

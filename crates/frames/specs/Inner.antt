@@ -1,4 +1,4 @@
--- For private functions alone.
+-- Inner: only contracts of private functions cite this.
 use Prim.Native.Nat.{ℕ, _*_, _/_, _^_, _%_}
 use mathlib.Core.Path.{_≡_}
 use mathlib.Core.List.{List, [], _∷_}

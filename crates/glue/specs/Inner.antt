@@ -1,4 +1,5 @@
--- Inner: what the contracts of private functions cite. What the writers of the parts of a glued netlist are lent and write.
+-- Inner: only contracts of private functions cite this. What the writers of the parts of a glued netlist are lent and
+-- write.
 use Prim.Native.Nat.{ℕ, _+_, _*_, _<_, _≤_}
 use mathlib.Core.List.{List, _++_, map}
 use lib.ListN.{length, getD, drop}

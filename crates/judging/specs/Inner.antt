@@ -1,4 +1,4 @@
--- For private functions alone: what encipher and Kreyvium judge alike.
+-- Inner: only contracts of private functions cite this. What encipher and Kreyvium judge alike.
 use Prim.Native.Nat.{ℕ}
 use mathlib.Core.List.{List}
 use lib.ListN.{length}

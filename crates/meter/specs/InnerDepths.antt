@@ -1,5 +1,5 @@
--- Inner: what contracts of this crate's private functions cite, and no promise that a caller reads. The passes that measure an
--- accepted netlist: what each is lent, and what it leaves.
+-- Inner: only contracts of private functions cite this. The passes that measure an accepted netlist: what each is lent, and
+-- what it leaves.
 use Prim.Native.Nat.{ℕ, _+_, _≤_}
 use mathlib.Core.Path.{_≡_}
 use mathlib.Core.List.{List}

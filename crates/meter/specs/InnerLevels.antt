@@ -1,6 +1,5 @@
--- Inner: what contracts of this crate's private functions cite, and no promise that a caller reads. The pass that counts the gates
--- of a measured netlist: what is left to it, what it is lent, and what it leaves. It counts any spots; which gates multiply, `spotOf`
--- alone says.
+-- Inner: only contracts of private functions cite this. The pass that counts the gates of a measured netlist: what is left
+-- to it, what it is lent, and what it leaves. It counts any spots; which gates multiply, `spotOf` alone says.
 use Prim.Native.Nat.{ℕ, zero, suc, _+_, _<_, _≤_}
 use mathlib.Core.Path.{_≡_}
 use mathlib.Core.List.{List}

@@ -1,4 +1,4 @@
--- What the judges and the writers of the path speak of. Only promises of private functions cite this.
+-- Inner: only contracts of private functions cite this. What the judges and the writers of the path speak of.
 use Prim.Native.Nat.{ℕ}
 use mathlib.Core.List.{List}
 use lib.ListN.{take}

@@ -1,5 +1,5 @@
--- Inner: what the contracts of private functions cite, here and where a file is read. The steps in which the code judges a file, and
--- what each hands to the next.
+-- Inner: only contracts of private functions cite this. The steps in which the code judges a file, and what each hands to
+-- the next.
 use Prim.Native.Nat.{ℕ, _+_, _*_, _<_, _≤_}
 use mathlib.Core.Path.{_≡_}
 use mathlib.Core.List.{List}

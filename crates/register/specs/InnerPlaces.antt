@@ -1,5 +1,4 @@
--- Inner: what contracts of this crate's private functions cite, and no promise that a caller reads. Where the wires of Kreyvium's
--- registers stand, in closed form.
+-- Inner: only contracts of private functions cite this. Where the wires of Kreyvium's registers stand, in closed form.
 use mathlib.Core.Path.{_≡_}
 use mathlib.Core.List.{List, [], _∷_, _++_}
 use Prim.Native.Nat.{ℕ, zero, suc, _+_, _-_, _*_, _≤_, _<_}

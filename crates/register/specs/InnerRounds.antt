@@ -1,5 +1,5 @@
--- Inner: what contracts of this crate's private functions cite, and no promise that a caller reads. Where the words and wires of
--- Kreyvium's rounds begin, their gates over what they read, and the gates that remain.
+-- Inner: only contracts of private functions cite this. Where the words and wires of Kreyvium's rounds begin, their gates
+-- over what they read, and the gates that remain.
 use mathlib.Core.List.{List, _++_}
 use Prim.Native.Nat.{ℕ, _+_, _-_, _*_}
 use Rattle.netlist.specs.declared.counts.Counts.{Counts}

@@ -1,5 +1,5 @@
--- Inner: what contracts of this crate's private functions cite, and no promise that a caller reads. Text stored into a list of
--- bytes, part after part; the printed text from a netlist's words.
+-- Inner: only contracts of private functions cite this. Text stored into a list of bytes, part after part; the printed text
+-- from a netlist's words.
 use Prim.Native.Nat.{ℕ, _+_, _≤_}
 use mathlib.Core.Path.{_≡_}
 use mathlib.Core.List.{List, _++_}

@@ -1,4 +1,4 @@
--- Inner: what contracts of private functions cite, and no promise that a caller reads.
+-- Inner: only contracts of private functions cite this.
 use Prim.Native.Nat.{ℕ, _-_}
 use mathlib.Core.Bool.{Bool, true, false}
 use mathlib.Core.List.{List, [], _∷_}
