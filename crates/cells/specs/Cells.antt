@@ -31,7 +31,7 @@ pub record CellLevel : Type 0 where
   pub sum : ℕ
   pub next : ℕ
 
--- CellLevel i from 2, over input xi at wire x and the level b before it.
+-- Level i from 2, over input xi at wire x and the level b before it.
 -- cell(i, 0): NOT xi; AND cell(i-1, 0), that NOT. Others: MUX xi, cell(i-1, j), cell(i-1, j-1), but cell(i, i): AND
 -- cell(i-1, i-1), xi. w is the next wire.
 unfoldable pub cellGates : ℕ → ℕ → (ℕ → ℕ) → ℕ → ℕ → List Gate

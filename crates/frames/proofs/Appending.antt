@@ -257,7 +257,7 @@ module _ (s : List ℕ) (l : ℕ) (f : fileAnswer l s ≡ Done) where
   whole : Whole (framesIn s) s
   whole = file-whole l s f
 
-  -- where the last frame frameBegins
+  -- where the last frame begins
   abbrev from : ℕ
   from = length s - frameSize
 

@@ -40,7 +40,7 @@ decimal-high (suc k) h =
     digits-high k (suc k) h
     ∙ ap (λ (t : List ℕ). t ++ (48 + suc k % 10) ∷ []) (digits-room k (suc k / 10) (suc k / 10) (omega arith) (omega arith))
 
--- by the number of decimalDigits
+-- by the number of digits
 pub decimal-two : (n : ℕ) → 10 ≤ n → n < 100 → decimal n ≡ (48 + n / 10) ∷ (48 + n % 10) ∷ []
 decimal-two n h l =
     decimal-high n h ∙ ap (λ (t : List ℕ). t ++ (48 + n % 10) ∷ []) (decimal-low (n / 10) (omega arith))
@@ -50,7 +50,7 @@ decimal-three n h l =
     decimal-high n (omega arith)
     ∙ ap (λ (t : List ℕ). t ++ (48 + n % 10) ∷ []) (decimal-two (n / 10) (omega arith) (omega arith))
 
--- how many decimalDigits there are at most
+-- how many digits there are at most
 one-more : (k n : ℕ) → length (decimal (n / 10)) ≤ k → 10 ≤ n → length (decimal n) ≤ k + 1
 one-more k n h l = omega (arith, ap length (decimal-high n l), length-append (decimal (n / 10)) ((48 + n % 10) ∷ []))
 

@@ -4,7 +4,7 @@ use mathlib.Core.List.{List, [], _∷_, _++_}
 use lib.Dec.{ltb}
 use Rattle.answer.specs.Choose.{choose}
 
--- '0' is 48. The decimalDigits of n, the most significant first and no needless zeros, in at most k + 1 decimalDigits
+-- '0' is 48. The digits of n, the most significant first and no needless zeros, in at most k + 1 digits
 unfoldable pub decimalDigits : ℕ → ℕ → List ℕ
 decimalDigits zero n = (48 + n) ∷ []
 decimalDigits (suc k) n = choose (ltb n 10) ((48 + n) ∷ []) (decimalDigits k (n / 10) ++ (48 + n % 10) ∷ [])

@@ -1,4 +1,4 @@
--- Laws of numbers made of valueAt, the first the highest.
+-- Laws of numbers made of digits, the first the highest.
 use Prim.Native.Nat.{ℕ, zero, suc, _+_, _*_, _-_, _/_, _%_, _^_, _<_, _≤_}
 use mathlib.Core.Path.{_≡_, refl, sym, ap, ap₂, _∙_}
 use mathlib.Core.List.{List}
@@ -30,7 +30,7 @@ digits-agree base s t p q zero h = refl
 digits-agree base s t p q (suc n) h =
     ap₂ (λ (a b : ℕ). a * base + b) (digits-agree base s t p q n (λ i l. h i (omega arith))) (h n (omega arith))
 
--- a number of n valueAt is below base ^ n
+-- a number of n digits is below base ^ n
 pub below-step : (x d b q : ℕ) → x < q → d < b → x * b + d < q * b
 below-step x d b q h g =
     let k : suc x * b ≤ q * b = mul-le-mul-right b (omega arith) in
@@ -42,7 +42,7 @@ digits-below base s p zero h = rw (pow-zero base) (omega arith)
 digits-below base s p (suc n) h =
     rw (pow-suc base n) (below-step (valueAt base s p n) _ base (base ^ n) (digits-below base s p n (λ i l. h i (omega arith))) (h n (omega arith)))
 
--- so a number that is read digit by digit never outgrows n valueAt
+-- so a number that is read digit by digit never outgrows n digits
 grows : (b i k : ℕ) → 0 < b → b ^ i ≤ b ^ (i + k)
 grows b i zero h = rw (add-zero i) (omega arith)
 grows b i (suc k) h =
@@ -58,7 +58,7 @@ next-fits b n i x d h g l =
     let p : b ^ suc i ≤ b ^ n = rw e at (grows b (suc i) k (omega arith)) in
     omega (arith, rw (← pow-suc b i) at (below-step x d b (b ^ i) g l))
 
--- the first m valueAt and the n after them
+-- the first m digits and the n after them
 pub digits-split : (base : ℕ) (s : List ℕ) (p m n : ℕ) → valueAt base s p (m + n) ≡ valueAt base s p m * base ^ n + valueAt base s (p + m) n
 unfolding valueAt
 digits-split base s p m zero = rw (add-zero, pow-zero base) (omega arith)
@@ -70,7 +70,7 @@ digits-split base s p m (suc n) =
 
 -- ---- bits
 
--- bit n - 1 - i of n binary valueAt is digit i
+-- bit n - 1 - i of n binary digits is digit i
 pub binary-bit : (s : List ℕ) (p n i : ℕ) → ((k : ℕ) → k < n → getD s (p + k) 0 ≤ 1) → i < n → bit (valueAt 2 s p n) (n - 1 - i) ≡ getD s (p + i) 0
 unfolding bit valueAt
 binary-bit s p n i h l =
@@ -122,7 +122,7 @@ byte-bit s p n i h l =
     within x d (suc (suc (suc (suc (suc (suc (suc zero))))))) g = omega arith
     within x d (suc (suc (suc (suc (suc (suc (suc (suc t)))))))) g = absurd (omega arith)
 
--- n binary valueAt that are bits of x, the last of them bit k, are those n bits of x
+-- n binary digits that are bits of x, the last of them bit k, are those n bits of x
 pub digits-field : (s : List ℕ) (p n x k : ℕ) → ((i : ℕ) → i < n → getD s (p + i) 0 ≡ bit x (k + (n - 1 - i))) → valueAt 2 s p n ≡ x / 2 ^ k % 2 ^ n
 unfolding valueAt bit
 digits-field s p zero x k h = omega arith

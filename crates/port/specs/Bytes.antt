@@ -6,7 +6,7 @@ use lib.ListN.{length, getD}
 use Rattle.filter.specs.Filter.{tab}
 use Rattle.kreyvium.specs.Words.{bit}
 
--- the number that n valueAt from place p on make in a base, the first the highest
+-- the number that n digits from place p on make in a base, the first the highest
 unfoldable pub valueAt : ℕ → List ℕ → ℕ → ℕ → ℕ
 valueAt base s p zero = 0
 valueAt base s p (suc n) = valueAt base s p n * base + getD s (p + n) 0

@@ -65,7 +65,7 @@ outputsIn s = countsIn s .outputs
 unfoldable pub sizeAt : Form → List ℕ → ℕ → ℕ
 sizeAt form s p = 3 + 4 * widthOf form (getD s (p + 2) 0)
 
--- where the record of gate g recordBegins; the outputs' begin where that of gate G would
+-- where the record of gate g begins; the outputs' begin where that of gate G would
 unfoldable pub startOf : Form → List ℕ → ℕ → ℕ
 startOf form s zero = headSize
 startOf form s (suc g) = startOf form s g + sizeAt form s (startOf form s g)
@@ -99,7 +99,7 @@ wordsIn form s =
 
 -- ---- the answers
 
--- at p recordBegins a record with N and this letter, and its bytes are all there
+-- at p begins a record with N and this letter, and its bytes are all there
 unfoldable pub recordBegins : List ℕ → ℕ → ℕ → ℕ → Bool
 recordBegins s p letter size =
     choose (leb (p + size) (length s)) (choose (eqb (getD s p 0) byteN) (eqb (getD s (p + 1) 0) letter) false) false

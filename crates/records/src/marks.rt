@@ -20,7 +20,7 @@ pub(crate) struct Walk {
     pub(crate) at: usize,
 }
 
-// Whether at p recordBegins a record with N and this letter whose bytes are all there.
+// Whether at p begins a record with N and this letter whose bytes are all there.
 fn begins_at(s: &[u8], p: usize, letter: u8, size: usize) -> bool
     requires { ⌜ (p ≤ length (now s)) × (2 ≤ size) ⌝ }
     ensures { λ r. ⌜ r ≡ recordBegins (now (s .entry)) p letter size ⌝ }

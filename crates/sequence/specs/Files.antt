@@ -24,7 +24,7 @@ frameSize = 26
 
 -- ---- a file: frames end to end
 
--- where frame k frameBegins
+-- where frame k begins
 abbrev pub start : ℕ → ℕ
 start k = frameSize * k
 
@@ -32,7 +32,7 @@ start k = frameSize * k
 abbrev pub framesIn : List ℕ → ℕ
 framesIn s = (length s + 25) / frameSize
 
--- a whole frame with its mark frameBegins at p
+-- a whole frame with its mark begins at p
 unfoldable pub frameBegins : List ℕ → ℕ → Bool
 frameBegins s p =
     choose (leb (p + frameSize) (length s)) (choose (eqb (getD s p 0) byteP) (eqb (getD s (p + 1) 0) byteT) false) false
