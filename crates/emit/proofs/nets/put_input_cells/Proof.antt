@@ -5,6 +5,7 @@ use mathlib.Core.List.{List}
 use native.Mathlib.Omega.{arith}
 use denote.Ref.{now}
 use lib.ListN.{length, take}
+use Rattle.netlist.specs.Words.{headerWords}
 use Rattle.netlist.specs.Glue.{upFrom}
 use Rattle.netlist.specs.Put.{putGates}
 use Rattle.netlist.proofs.Glued.{upFrom-length, upFrom-at}
@@ -53,7 +54,7 @@ returns c =
     let at-put-wires = at-put-cells-arg2 .before .before .before .before in
     let start = at-put-wires .before .before .before .before in
     let a = start .args in
-    at-put-cells .put-cells .ensures .0 ∙ ap (λ (w : List ℕ). putGates (now (a .out)) 3 (cells w (a .lows) (a .highs) (a .n))) (inputs at-put-cells-arg2)
+    at-put-cells .put-cells .ensures .0 ∙ ap (λ (w : List ℕ). putGates (now (a .out)) headerWords (cells w (a .lows) (a .highs) (a .n))) (inputs at-put-cells-arg2)
 
 pub put-input-cells-spec : {M : Type 1} → statement M
 put-input-cells-spec =

@@ -3,6 +3,7 @@ use mathlib.Core.Path.{sym, ap, _∙_}
 use native.Mathlib.Omega.{arith}
 use denote.Ref.{now}
 use lib.ListN.{length}
+use Rattle.netlist.specs.Words.{headerWords}
 use Rattle.netlist.specs.declared.gate.Gate.the-variants.{One}
 use Rattle.netlist.specs.Put.{putGates}
 use Rattle.emit.proofs.Shapes.{alone, hot-none, hot-cells}
@@ -20,7 +21,7 @@ returns c =
     let at-put-gate = c .before .before in
     let in-then = at-put-gate .before .before in
     let start = in-then .before .before .before in
-    alone One _ _ _ 3 (hot-none (start .args .n) (in-then .if1 .taken)) (at-put-gate .put-gate .ensures)
+    alone One _ _ _ headerWords (hot-none (start .args .n) (in-then .if1 .taken)) (at-put-gate .put-gate .ensures)
 
 add-put-input-cells : tie.Need-add-put-input-cells
 add-put-input-cells c = search needs
@@ -39,7 +40,7 @@ returns-2 c =
     let at-put-input-cells = c .before .before .before .before in
     let in-else = at-put-input-cells .before .before .before in
     let start = in-else .before .before .before in
-    let a = start .args in at-put-input-cells .put-input-cells .ensures ∙ ap (putGates (now (a .out)) 3) (sym (hot-cells (a .n) (in-else .if1 .left)))
+    let a = start .args in at-put-input-cells .put-input-cells .ensures ∙ ap (putGates (now (a .out)) headerWords) (sym (hot-cells (a .n) (in-else .if1 .left)))
 
 pub put-one-hot-gates-spec : {M : Type 1} → statement M
 put-one-hot-gates-spec =
