@@ -1,5 +1,7 @@
 // Ordered choice of wires from public draws: docs/RULES.md, "Choice from draws". Judged 1, 3, 8, 14; the lists
 // are the draws and the row.
+#![tactic(auto)]
+
 ghost use Rattle.std.specs.Prelude.{◌≡◌, ◌≤◌, length, take};
 ghost use Rattle.answer.specs.First.{first};
 ghost use Rattle.answer.specs.Fronts.{over};

@@ -1,5 +1,7 @@
 // Keystream, enciphering and deciphering with the six instances: docs/RULES.md, "Six instances" and "Rows".
 // After judging, no branch and no index depends on a bit of the key or of the record.
+#![tactic(auto)]
+
 mod rows;
 mod stream;
 

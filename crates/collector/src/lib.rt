@@ -1,5 +1,7 @@
 // The collector's four calls, for C: files of port frames appended to, read and checked, on numbers and byte lists.
 // A list passes as a pointer and a length, an answer as one number, packed as the daemon's are.
+#![tactic(auto)]
+
 ghost use Rattle.std.specs.Prelude.{◌≡◌, min};
 ghost use Rattle.daemon.specs.Packed.{Packable, most_place, packed_of};
 ghost use Rattle.sequence.specs.Files.{file_answer};

@@ -1,5 +1,7 @@
 // The scoring daemon's two calls, for C: Kreyvium enciphering and netlist file checking, on numbers and byte
 // lists. A list passes as a pointer and a length, an answer as one number.
+#![tactic(auto)]
+
 ghost use Rattle.std.specs.Prelude.{◌≡◌, min};
 ghost use Rattle.records.specs.declared.form.Form.{Form};
 ghost use Rattle.records.specs.File.{check_answer};

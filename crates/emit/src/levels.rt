@@ -12,7 +12,7 @@ use crate::put::put_gate;
 // Where a run of levels stands. Cell 0 is kept at `lows` more levels. The last AND of a level is a cell at
 // `highs` - 1 more; then it is the sum, and after that it joins the sum. The row before has its cells at wires
 // `first`, `second`, `second` + 1, ..; `more` are there after the first.
-#[derive(Drop)]
+#[derive(Clone, Copy)]
 pub struct LevelRow {
     pub at: usize,
     pub lows: u32,

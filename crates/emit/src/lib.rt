@@ -1,4 +1,6 @@
 // Emission of one-hot, threshold and deciphering netlists: docs/RULES.md, "What is emitted".
+#![tactic(auto)]
+
 mod judge;
 mod levels;
 mod nets;
@@ -17,7 +19,7 @@ use answer::Answer;
 use netlist::counts::Counts;
 
 // How many gates and words a netlist has, where the call that says so is done.
-#[derive(Drop)]
+#[derive(Clone, Copy)]
 pub struct Size {
     pub answer: Answer,
     pub gates: usize,

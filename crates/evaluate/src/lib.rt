@@ -1,5 +1,7 @@
 // Evaluation of a netlist on bits in the clear: docs/RULES.md, "Netlists". A value for every wire, then the
 // outputs. Judged 9, 3, 4, 8; the lists are the netlist, the inputs, the values and the outputs.
+#![tactic(auto)]
+
 ghost use Rattle.std.specs.Prelude.{◌≡◌, ◌≤◌, length};
 ghost use Rattle.answer.specs.Fronts.{over};
 ghost use Rattle.evaluate.specs.Evaluate.{evaluate_answer, Evaluated};

@@ -1,6 +1,8 @@
 // The netlist file, read, written and checked: docs/RULES.md, "Netlist file". A file is judged header (12),
 // counts (9), room (8), records and rest (12), wires (9), and nothing is written before all is judged. The
 // lists are what is read or written, and the result.
+#![tactic(auto)]
+
 mod bytes;
 mod read;
 mod write;

@@ -1,5 +1,7 @@
 // The filters of instances 1 to 5: docs/RULES.md, "Monomials"; papers 000 (FLIP) and 001 (FiLIP). A filter
 // takes the variables of a row, in order, each once. No branch and no index depends on a variable.
+#![tactic(auto)]
+
 mod tables;
 
 ghost use Rattle.std.specs.Prelude.{◌≡◌, ◌+◌, ◌*◌, ◌%◌, ◌≤◌, min, length, take, drop, replicate};

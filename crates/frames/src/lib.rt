@@ -1,6 +1,8 @@
 // Frames for port records: docs/RULES.md, "Frames". One file that a switch can append to: frames end to end, each the mark
 // "PT", 16 bytes of IV and 8 bytes of record enciphered with Kreyvium, the IVs rising strictly. A layer above the
 // ciphers, which leans on what they promise alone. A file is judged by `sequence`; a record's fields are in `port`.
+#![tactic(auto)]
+
 mod bytes;
 mod judge;
 mod seal;

@@ -16,7 +16,7 @@ use port::RECORD_BITS;
 use sequence::{FRAME_SIZE, word};
 
 // The key as Kreyvium takes it, its first bit lowest.
-#[derive(Drop)]
+#[derive(Clone, Copy)]
 struct Key {
     first: u64,
     second: u64,

@@ -1,6 +1,8 @@
 // Gluing two netlists: docs/RULES.md, "Gluing". Inputs of the first; its gates; then the gates of the second,
 // written from where the first's end; outputs of the second. Judged 9, 9, 8, 10, 11; the lists are the
 // first, the second and the result.
+#![tactic(auto)]
+
 ghost use Rattle.std.specs.Prelude.{◌≡◌, [], ◌∷◌, map, ◌+◌, ◌<◌, ◌≤◌, length, ltb};
 ghost use Rattle.std.proofs.lemmas.List.Edits.{sets};
 ghost use Rattle.answer.specs.Choose.{choose};

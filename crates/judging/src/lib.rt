@@ -1,4 +1,6 @@
 // What a cipher call is lent, judged in the rules' order.
+#![tactic(auto)]
+
 ghost use Rattle.std.specs.Prelude.{◌≡◌};
 ghost use Rattle.answer.specs.Answers.{◌▹◌};
 ghost use Rattle.answer.specs.Bits.{bits_answer};

@@ -3,6 +3,8 @@
 // The registers are packed words that go into each function by value and come back from it. Beside
 // the single round there are 64 rounds at once on whole words: every tap stands at the 66th place of
 // its register or above, so what 64 rounds read is in the registers before the first of them.
+#![tactic(auto)]
+
 ghost use Rattle.std.specs.Prelude.{◌≡◌, ◌++◌, ℕ, ◌+◌, ◌%◌, ◌<◌, ◌≤◌, take, drop, get_or};
 ghost use Rattle.kreyvium.specs.Kreyvium.{loaded, s_a, s_b, s_c, out_of, t1, t2, t3, push, round_of, rounds, stream, stream_of};
 ghost use Rattle.kreyvium.specs.Words.{bits, bit, tops, reg, state_of};
@@ -11,14 +13,14 @@ ghost use Rattle.kreyvium.specs.Early.{early, Right};
 // A register of up to 128 places: the first 64 in lo and the others in hi, each from the low end up.
 // A shorter register leaves bits above its length. They are never cleared: every tap stands below
 // that length and bits only move up, so none of them is ever read.
-#[derive(Drop)]
+#[derive(Clone, Copy)]
 struct Words {
     lo: u64,
     hi: u64,
 }
 
 // s1..s93, s94..s177 and s178..s288.
-#[derive(Drop)]
+#[derive(Clone, Copy)]
 struct Shift {
     a: Words,
     b: Words,
@@ -27,7 +29,7 @@ struct Shift {
 
 // The three registers with K* and IV*, whose first place is bit 127 and whose last is bit 0. The fields are private: a
 // caller learns of a state what the promises say of the registers it stands for, and nothing of its words.
-#[derive(Drop)]
+#[derive(Clone, Copy)]
 pub struct State {
     s: Shift,
     k: Words,
@@ -35,7 +37,7 @@ pub struct State {
 }
 
 // What 64 rounds bring into a, b and c: the first round's bit at place 63.
-#[derive(Drop)]
+#[derive(Clone, Copy)]
 struct Entry {
     a: u64,
     b: u64,

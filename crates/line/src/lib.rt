@@ -1,16 +1,18 @@
 // The line "d n" that the printing program reads: docs/RULES.md, "The printing program".
+#![tactic(auto)]
+
 ghost use Rattle.std.specs.Prelude.{◌≡◌, ◌-◌, ◌≤◌};
 ghost use Rattle.line.specs.Asked.{is_digit, number_at, ended_by, asked_of};
 
 // A line "d n", or anything else.
-#[derive(Drop)]
+#[derive(Clone, Copy)]
 pub enum Asked {
     Line { d: u32, n: u32 },
     Nothing,
 }
 
 // A number and the place past it, or none.
-#[derive(Drop)]
+#[derive(Clone, Copy)]
 enum Number {
     Read { value: u32, past: usize },
     Missing,

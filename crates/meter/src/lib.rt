@@ -1,6 +1,8 @@
 // The meter: docs/RULES.md, "Netlists". The depth of every wire, the AND and the MUX gates counted by depth,
 // the netlist's depth and its multiplications. Judged 9, 8; the lists are the netlist, the depths and the
 // levels.
+#![tactic(auto)]
+
 ghost use Rattle.std.specs.Prelude.{◌≡◌, map, ℕ, ◌+◌, ◌/◌, ◌≤◌, ◌<◌, max, length, get_or, take, drop, replicate, eqb};
 ghost use Rattle.answer.specs.Fronts.{over};
 ghost use Rattle.netlist.specs.Net.{at, dep_alg, max_of};
@@ -16,14 +18,14 @@ use netlist::{GATE_STRIDE, HEADER_WORDS};
 
 // A level record: the AND gates and the MUX gates of one depth.
 #[repr(C)]
-#[derive(Drop)]
+#[derive(Clone, Copy)]
 pub struct Level {
     pub ands: u32,
     pub muxes: u32,
 }
 
 // The answer, with the netlist's depth and its multiplications, both 0 on a refusal.
-#[derive(Drop)]
+#[derive(Clone, Copy)]
 pub struct Metered {
     pub answer: Answer,
     pub depth: u32,
@@ -31,7 +33,7 @@ pub struct Metered {
 }
 
 // What the depths tell: the answer up to them, the netlist's depth, and how many levels there are.
-#[derive(Drop)]
+#[derive(Clone, Copy)]
 struct Measured {
     answer: Answer,
     depth: u32,
@@ -40,7 +42,7 @@ struct Measured {
 
 // The answer and the netlist's depth, and how many gates, after how many inputs, are still to be counted in how
 // many levels: none on a refusal.
-#[derive(Drop)]
+#[derive(Clone, Copy)]
 struct Plan {
     answer: Answer,
     depth: u32,
@@ -50,7 +52,7 @@ struct Plan {
 }
 
 // At which level a gate is counted, and what it adds there and to the multiplications.
-#[derive(Drop)]
+#[derive(Clone, Copy)]
 struct Spot {
     at: usize,
     ands: u32,

@@ -5,7 +5,7 @@ ghost use Rattle.netlist.specs.Words.{header, counts_of, word_count};
 
 use crate::{GATE_STRIDE, HEADER_WORDS};
 
-#[derive(Drop)]
+#[derive(Clone, Copy)]
 pub struct Counts {
     pub inputs: u32,
     pub gates: u32,

@@ -1,6 +1,8 @@
 // The whole path of a record: the request's last sentence as one call. The record is enciphered, the netlist that
 // deciphers it is emitted, a scoring netlist is glued behind that, and the glued netlist is evaluated on the key and the
 // enciphered record: the scores are the scoring netlist's outputs on the plain record.
+#![tactic(auto)]
+
 mod judge;
 mod write;
 
@@ -9,7 +11,7 @@ ghost use Rattle.path.specs.Path.{Scored};
 use answer::Answer;
 
 // How many places the results have, in their order: as lent, or as needed.
-#[derive(Drop)]
+#[derive(Clone, Copy)]
 struct Rooms {
     enciphered: usize,
     deciphering: usize,

@@ -1,5 +1,7 @@
 // A port record's five fields and its 64 bits: docs/RULES.md, "Frames". No call on frames judges fields: a record is any
 // 64 bits.
+#![tactic(auto)]
+
 ghost use Rattle.std.specs.Prelude.{◌≡◌, ℕ, ◌+◌, ◌<◌, ◌≤◌, length, get_or};
 ghost use Rattle.answer.specs.Fronts.{over};
 ghost use Rattle.port.specs.Bytes.{value_at, high_first};
@@ -10,7 +12,7 @@ use answer::Answer;
 pub const RECORD_BITS: usize = 64;
 
 // Made by `new` and `fields` alone, so that each value has room in its field.
-#[derive(Drop)]
+#[derive(Clone, Copy)]
 pub struct Port {
     number: u32,
     admin: u32,
@@ -20,14 +22,14 @@ pub struct Port {
 }
 
 // A port, or the first field, counted from 1, whose value is too large for it.
-#[derive(Drop)]
+#[derive(Clone, Copy)]
 pub enum Made {
     Fitting(Port),
     TooLarge(u32),
 }
 
 // The port of 64 bits, or why there is none.
-#[derive(Drop)]
+#[derive(Clone, Copy)]
 pub enum Found {
     Record(Port),
     Refused {

@@ -4,6 +4,8 @@
 //
 // The longest line "d n" has 8 bytes, so 64 bytes decide: where the input is longer, they are no line
 // either, and both are refused (`long-refused` of crate text).
+#![tactic(auto)]
+
 use answer::Answer;
 
 const STANDARD_INPUT: i32 = 0;

@@ -1,5 +1,7 @@
 // The public calls, exported for the tests and the demonstration. Lists pass as a pointer and a length, an answer as its
 // number, list and place: 0, 0, 0 for done.
+#![tactic(auto)]
+
 ghost use Rattle.std.specs.Prelude.{◌≡◌, length};
 ghost use Rattle.netlist.specs.Check.{net_answer};
 ghost use Rattle.cells.specs.Cells.{one_hot_net, threshold_net};
@@ -17,7 +19,7 @@ use port::{Found, Made, Port};
 use text::Printing;
 
 #[repr(C)]
-#[derive(Drop)]
+#[derive(Clone, Copy)]
 pub struct Reply {
     pub number: u32,
     pub list: u32,
@@ -25,7 +27,7 @@ pub struct Reply {
 }
 
 #[repr(C)]
-#[derive(Drop)]
+#[derive(Clone, Copy)]
 pub struct Metering {
     pub number: u32,
     pub list: u32,
@@ -36,7 +38,7 @@ pub struct Metering {
 
 // The length of a text, 0 on a refusal.
 #[repr(C)]
-#[derive(Drop)]
+#[derive(Clone, Copy)]
 pub struct Printout {
     pub number: u32,
     pub list: u32,
@@ -46,7 +48,7 @@ pub struct Printout {
 
 // How many gates and words a netlist has, both 0 on a refusal.
 #[repr(C)]
-#[derive(Drop)]
+#[derive(Clone, Copy)]
 pub struct Sizing {
     pub number: u32,
     pub list: u32,
@@ -57,7 +59,7 @@ pub struct Sizing {
 
 // A port's fields, all 0 on a refusal.
 #[repr(C)]
-#[derive(Drop)]
+#[derive(Clone, Copy)]
 pub struct Fielding {
     pub number: u32,
     pub list: u32,
@@ -71,7 +73,7 @@ pub struct Fielding {
 
 // An answer, and which field's value is too large: 0 for none.
 #[repr(C)]
-#[derive(Drop)]
+#[derive(Clone, Copy)]
 pub struct Putting {
     pub number: u32,
     pub list: u32,

@@ -6,7 +6,7 @@ ghost use Rattle.records.specs.File.{mark_of, width_of};
 use netlist::HEADER_WORDS;
 
 // Full: all three operands, used or not.
-#[derive(Drop)]
+#[derive(Clone, Copy)]
 pub enum Form {
     Full,
 }

@@ -1,5 +1,7 @@
 // The netlist file judged: docs/RULES.md, "Netlist file". Header (12), counts (9), room (8), records and rest
 // (12), wires (9); a check has no room. Who reads a judged file takes counts, gate records and words out of it here.
+#![tactic(auto)]
+
 mod bytes;
 pub mod form;
 mod marks;
@@ -17,7 +19,7 @@ use answer::Answer;
 use netlist::counts::{Counts, word_count};
 
 // A gate's four words, and the bytes that its record takes.
-#[derive(Drop)]
+#[derive(Clone, Copy)]
 pub struct Quad {
     pub kind: u32,
     pub a: u32,

@@ -9,7 +9,7 @@ use crate::form::{BYTE_G, BYTE_N, BYTE_O, Form, HEAD_SIZE, OUT_SIZE};
 use answer::Answer;
 
 // A walk over records: its answer, and if that is done where the walk ended.
-#[derive(Drop)]
+#[derive(Clone, Copy)]
 pub(crate) struct Walk {
     pub(crate) answer: Answer,
     pub(crate) at: usize,

@@ -1,4 +1,6 @@
 // Kreyvium's deciphering netlist: docs/RULES.md, "What is emitted".
+#![tactic(auto)]
+
 mod put;
 mod wires;
 mod write;

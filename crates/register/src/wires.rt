@@ -7,7 +7,7 @@ ghost use Rattle.std.specs.Prelude.{◌≡◌, ◌+◌, ◌*◌, ◌%◌, ◌≤
 ghost use Rattle.register.specs.InnerPlaces.{tail_at, registers_at, const_wire, wire_a, wire_b, start_c, wire_c, taps_of, places_a, places_b, places_c, ago_of, Small};
 
 // The wires of the five places that a round reads of a register, in the order of their numbers.
-#[derive(Drop)]
+#[derive(Clone, Copy)]
 pub(crate) struct Five {
     pub(crate) p: u32,
     pub(crate) q: u32,
@@ -17,7 +17,7 @@ pub(crate) struct Five {
 }
 
 // The wires that a round reads: of the three registers, K*0 and IV*0.
-#[derive(Drop)]
+#[derive(Clone, Copy)]
 pub(crate) struct Taps {
     pub(crate) a: Five,
     pub(crate) b: Five,

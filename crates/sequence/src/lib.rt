@@ -1,5 +1,7 @@
 // A file of frames judged: docs/RULES.md, "Frames". Frames end to end, each with its mark, and their IVs rising strictly.
 // What a frame holds besides is no matter here.
+#![tactic(auto)]
+
 ghost use Rattle.std.specs.Prelude.{◌≡◌, ◌+◌, ◌*◌, ◌/◌, ◌%◌, ◌^◌, ◌<◌, ◌≤◌, length, nat_lt};
 ghost use Rattle.answer.specs.declared.Answer.{Answer};
 ghost use Rattle.answer.specs.Answers.{each};

@@ -1,5 +1,7 @@
 // The printing program's work on lists of bytes: docs/RULES.md, "The printing program". The text that is
 // printed for a whole input.
+#![tactic(auto)]
+
 mod gates;
 mod net;
 mod put;
@@ -13,7 +15,7 @@ use answer::Answer;
 use line::Asked;
 
 // The answer, with the length of the text, 0 on a refusal.
-#[derive(Drop)]
+#[derive(Clone, Copy)]
 pub struct Printing {
     pub answer: Answer,
     pub size: usize,

@@ -5,6 +5,8 @@
 // Sources: 000 (FLIP), 003 (Kreyvium), the rules (docs/RULES.md). A list of bits is printed with
 // commas; a key, an IV and a keystream as bytes in hexadecimal, the low bit of each byte first in Kreyvium's
 // public vectors and the high bit in frames.
+#![tactic(auto)]
+
 mod choice_lines;
 mod file_lines;
 mod filter_lines;
