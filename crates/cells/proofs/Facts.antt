@@ -1,7 +1,7 @@
 -- The one-hot and the threshold netlists as wholes, for every n, d and inputs: what they compute, depth, multiplications,
 -- validity, and how many gates there are at most.
 use Prim.Native.Nat.{ℕ, zero, suc, ◌+◌, ◌-◌, ◌*◌, ◌/◌, ◌≤◌, ◌<◌, max}
-use mathlib.Core.Path.{◌≡◌, refl, sym, ap, ap₂, ◌∙◌}
+use mathlib.Core.Path.{◌≡◌, refl, sym, ap, ap₂, ◌∙◌, subst}
 use mathlib.Core.List.{List, [], ◌∷◌, ◌++◌, map, append_assoc}
 use native.Mathlib.Nat.{mul-le-mul_left}
 use native.Mathlib.Omega.{arith}
@@ -50,7 +50,7 @@ threshold_any A d (suc zero) (x ∷ y ∷ v) e h1 h2 = absurd (omega arith)
 threshold_any A d (suc zero) (x ∷ []) e h1 h2 = let z : d ≡ 1 = omega arith in rw (z, one_of_one) (one_input A x)
 threshold_any {X} A d (suc (suc k)) v e h1 h2 =
     let n = suc (suc k) in
-    let c = thr_any d 0 1 (up_from 2 k) h1 (omega (arith, up_from-length 2 k)) A v n (rw e (inputs_below n)) (sym e) in
+    let c = thr_any d 0 1 (up_from 2 k) h1 (omega (arith, up_from-length 2 k)) A v n (let P : ℕ → Type 0 = λ m. Below m (up_from 0 n) in subst P (sym e) (inputs_below n)) (sym e) in
     ap (λ (m : Net). outs_of A m v) (net_of_part d n)
     ∙ ap (λ (y : X). y ∷ []) (c.value ∙ ap (thr_of A d) (ap (λ (i : ℕ). map (at A v) (up_from 0 i)) (sym e) ∙ inputs_after A [] v 0 refl))
 

@@ -89,7 +89,10 @@ module _ {Val : Type 0} (A : Alg Val) where
   pub row_mid : (q p r : List Val) (w : ℕ) → w ≡ length p → row (p ++ (q ++ r)) w (length q) ≡ q
   row_mid [] p r w e = refl
   row_mid (v ∷ q) p r w e =
-      rw (at_seam p v (q ++ r) w e, ← append_snoc' p v (q ++ r), row_mid q (p ++ (v ∷ [])) r (w + 1) (rw (length-append p (v ∷ [])) (omega (arith, e))))
+      rw (at_seam p v (q ++ r) w e)
+      (ap (λ (t : List Val). v ∷ t)
+      (ap (λ (env : List Val). row env (w + 1) (length q)) (sym (append_snoc' p v (q ++ r)))
+      ∙ row_mid q (p ++ (v ∷ [])) r (w + 1) (rw (length-append p (v ∷ [])) (omega (arith, e)))))
     where
       append_snoc' : (xs : List Val) (a : Val) (ys : List Val) → (xs ++ (a ∷ [])) ++ ys ≡ xs ++ (a ∷ ys)
       append_snoc' xs a ys = append_assoc xs (a ∷ []) ys

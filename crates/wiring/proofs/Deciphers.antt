@@ -85,12 +85,12 @@ module _ (S : ℕ → Split) (inst : ℕ) (idx wh : List ℕ) where
       → map (at A (run A v (bits_gates S inst idx wh k i next))) (bits_outs S inst idx wh k i next) ≡ list_of f k i
   unfolding bits_gates bits_outs past
   outs_list A u top m f c zero i next v h n s = refl
-  outs_list A u top m f c (suc k) i next v h n s =
+  outs_list {X} A u top m f c (suc k) i next v h n s =
       let p = part_at S inst idx wh i next in
       let cp = c i next v (omega arith) n s in
       let l = run_length A v p.gates in
-      rw (run-append A v p.gates (bits_gates S inst idx wh k (suc i) (next + length p.gates)))
-      (ap₂ ◌∷◌ (run_keeps A (run A v p.gates) (bits_gates S inst idx wh k (suc i) (next + length p.gates)) p.out (omega (arith, cp.inside)) ∙ cp.value)
+      ap (λ (r : List X). map (at A r) (bits_outs S inst idx wh (suc k) i next)) (run-append A v p.gates (bits_gates S inst idx wh k (suc i) (next + length p.gates)))
+      ∙ (ap₂ ◌∷◌ (run_keeps A (run A v p.gates) (bits_gates S inst idx wh k (suc i) (next + length p.gates)) p.out (omega (arith, cp.inside)) ∙ cp.value)
       (outs_list A u top m f c k (suc i) (next + length p.gates) (run A v p.gates) (omega arith) (omega arith) (same-run A top u v p.gates s)))
 
   outs_length : (k i next : ℕ) → length (bits_outs S inst idx wh k i next) ≡ k
@@ -137,7 +137,8 @@ module _ (S : ℕ → Split) (inst : ℕ) (idx wh : List ℕ) where
       let r = bits_valid m c k (suc i) (next + length p.gates) (omega arith) (omega arith) in
       let g = bits_gates S inst idx wh k (suc i) (next + length p.gates) in
       let e : next + length (p.gates ++ g) ≡ next + length p.gates + length g = simp length-append (omega arith) in
-      (wired_append next p.gates g s.wired r.0, rw e (omega (arith, s.inside), r.1))
+      let P : ℕ → Type 0 = λ n. Below n (bits_outs S inst idx wh (suc k) i next) in
+      (wired_append next p.gates g s.wired r.0, subst P (sym e) (omega (arith, s.inside), r.1))
 
 max_const : (d k i : ℕ) → max_of (list_of (λ (j : ℕ). d) (suc k) i) ≡ d
 max_const d zero i = omega arith
