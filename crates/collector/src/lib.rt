@@ -35,8 +35,7 @@ fn packed(answer: Answer) -> u64
 }
 
 // Judges key, record, IV and the file so far, and writes the new frame. Lists: key, record, IV, file, frame.
-#[unsafe(no_mangle)]
-pub extern "C" fn sallowknot_frames_append(
+pub fn sallowknot_frames_append(
     key: &[u8],
     record: &[u8],
     iv: &[u8],
@@ -49,8 +48,7 @@ pub extern "C" fn sallowknot_frames_append(
 }
 
 // The same behind the last frame of a file that the caller has judged. Lists: key, record, IV, last frame, frame.
-#[unsafe(no_mangle)]
-pub extern "C" fn sallowknot_frames_append_after(
+pub fn sallowknot_frames_append_after(
     key: &[u8],
     record: &[u8],
     iv: &[u8],
@@ -63,16 +61,14 @@ pub extern "C" fn sallowknot_frames_append_after(
 }
 
 // Gives every record of a file. Lists: key, file, records.
-#[unsafe(no_mangle)]
-pub extern "C" fn sallowknot_frames_read(key: &[u8], file: &[u8], records: &mut [u8]) -> u64
+pub fn sallowknot_frames_read(key: &[u8], file: &[u8], records: &mut [u8]) -> u64
     ensures { ReadPacked key.now file.now records.old result records.new }
 {
     packed(frames::read(key, file, records))
 }
 
 // Checks a file. List: file.
-#[unsafe(no_mangle)]
-pub extern "C" fn sallowknot_frames_check(file: &[u8]) -> u64
+pub fn sallowknot_frames_check(file: &[u8]) -> u64
     ensures { result ≡ packed_of (file_answer 1 file.now) }
 {
     packed(frames::check(file))

@@ -55,8 +55,7 @@ fn without_indices(answer: Answer) -> Answer
 }
 
 // Enciphers a record of m bits; deciphers one that was enciphered. Lists: key, record, IV, result.
-#[unsafe(no_mangle)]
-pub extern "C" fn sallowknot_kreyvium_encipher(
+pub fn sallowknot_kreyvium_encipher(
     m: u32,
     key: &[u8],
     record: &[u8],
@@ -71,8 +70,7 @@ pub extern "C" fn sallowknot_kreyvium_encipher(
 }
 
 // Checks a netlist file. List: source.
-#[unsafe(no_mangle)]
-pub extern "C" fn sallowknot_check_file(source: &[u8]) -> u64
+pub fn sallowknot_check_file(source: &[u8]) -> u64
     ensures { result ≡ packed_of (check_answer Form.Full source.now) }
 {
     packed(file::check_file(source))

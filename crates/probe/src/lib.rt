@@ -102,20 +102,13 @@ fn told(answer: Answer) -> Reply
     }
 }
 
-#[unsafe(no_mangle)]
-pub extern "C" fn probe_check(net: &[u32]) -> Reply
+pub fn probe_check(net: &[u32]) -> Reply
     ensures { result ≡ reply_of (net_answer 1 net.now) }
 {
     told(netlist::check::check(net))
 }
 
-#[unsafe(no_mangle)]
-pub extern "C" fn probe_evaluate(
-    net: &[u32],
-    inputs: &[u8],
-    values: &mut [u8],
-    outputs: &mut [u8],
-) -> Reply
+pub fn probe_evaluate(net: &[u32], inputs: &[u8], values: &mut [u8], outputs: &mut [u8]) -> Reply
     ensures { EvaluateReply net.now inputs.now values.old outputs.old result values.new outputs.new }
 {
     told(evaluate::evaluate(net, inputs, values, outputs))
@@ -135,30 +128,26 @@ fn metering_of(metered: Metered) -> Metering
     }
 }
 
-#[unsafe(no_mangle)]
-pub extern "C" fn probe_meter(net: &[u32], depths: &mut [u32], levels: &mut [Level]) -> Metering
+pub fn probe_meter(net: &[u32], depths: &mut [u32], levels: &mut [Level]) -> Metering
     ensures { MeterReply net.now depths.old levels.old result depths.new levels.new }
 {
     let m = meter::meter(net, depths, levels);
     metering_of(m)
 }
 
-#[unsafe(no_mangle)]
-pub extern "C" fn probe_glue(first: &[u32], second: &[u32], out: &mut [u32]) -> Reply
+pub fn probe_glue(first: &[u32], second: &[u32], out: &mut [u32]) -> Reply
     ensures { GlueReply first.now second.now out.old result out.new }
 {
     told(glue::glue(first, second, out))
 }
 
-#[unsafe(no_mangle)]
-pub extern "C" fn probe_choose(instance: u32, draws: &[u32], row: &mut [u32]) -> Reply
+pub fn probe_choose(instance: u32, draws: &[u32], row: &mut [u32]) -> Reply
     ensures { ChooseReply instance draws.now row.old result row.new }
 {
     told(choice::choose(instance, draws, row))
 }
 
-#[unsafe(no_mangle)]
-pub extern "C" fn probe_keystream(
+pub fn probe_keystream(
     instance: u32,
     m: u32,
     key: &[u8],
@@ -171,8 +160,7 @@ pub extern "C" fn probe_keystream(
     told(cipher::keystream(instance, m, key, indices, whitening, res))
 }
 
-#[unsafe(no_mangle)]
-pub extern "C" fn probe_encipher(
+pub fn probe_encipher(
     instance: u32,
     m: u32,
     key: &[u8],
@@ -186,8 +174,7 @@ pub extern "C" fn probe_encipher(
     told(cipher::encipher(instance, m, key, record, indices, whitening, res))
 }
 
-#[unsafe(no_mangle)]
-pub extern "C" fn probe_decipher(
+pub fn probe_decipher(
     instance: u32,
     m: u32,
     key: &[u8],
@@ -201,22 +188,19 @@ pub extern "C" fn probe_decipher(
     told(cipher::decipher(instance, m, key, record, indices, whitening, res))
 }
 
-#[unsafe(no_mangle)]
-pub extern "C" fn probe_emit_one_hot(n: u32, res: &mut [u32]) -> Reply
+pub fn probe_emit_one_hot(n: u32, res: &mut [u32]) -> Reply
     ensures { EmitReply (one_hot_answer n (length res.old)) (one_hot_net n) res.old result res.new }
 {
     told(emit::emit_one_hot(n, res))
 }
 
-#[unsafe(no_mangle)]
-pub extern "C" fn probe_emit_threshold(d: u32, n: u32, res: &mut [u32]) -> Reply
+pub fn probe_emit_threshold(d: u32, n: u32, res: &mut [u32]) -> Reply
     ensures { EmitReply (threshold_answer d n (length res.old)) (threshold_net d n) res.old result res.new }
 {
     told(emit::emit_threshold(d, n, res))
 }
 
-#[unsafe(no_mangle)]
-pub extern "C" fn probe_emit_decipher(
+pub fn probe_emit_decipher(
     instance: u32,
     m: u32,
     indices: &[u32],
@@ -242,20 +226,13 @@ fn sizing_of(size: Size) -> Sizing
     }
 }
 
-#[unsafe(no_mangle)]
-pub extern "C" fn probe_decipher_size(
-    instance: u32,
-    m: u32,
-    indices: &[u32],
-    whitening: &[u8],
-) -> Sizing
+pub fn probe_decipher_size(instance: u32, m: u32, indices: &[u32], whitening: &[u8]) -> Sizing
     ensures { result ≡ sizing_of (sized_by (wiring_answer instance m indices.now whitening.now) (decipher_net instance m indices.now whitening.now)) }
 {
     sizing_of(emit::decipher_size(instance, m, indices, whitening))
 }
 
-#[unsafe(no_mangle)]
-pub extern "C" fn probe_score(
+pub fn probe_score(
     instance: u32,
     m: u32,
     key: &[u8],
@@ -289,22 +266,19 @@ pub extern "C" fn probe_score(
     ))
 }
 
-#[unsafe(no_mangle)]
-pub extern "C" fn probe_read_file(source: &[u8], res: &mut [u32]) -> Reply
+pub fn probe_read_file(source: &[u8], res: &mut [u32]) -> Reply
     ensures { ReadReply source.now res.old result res.new }
 {
     told(file::read_file(source, res))
 }
 
-#[unsafe(no_mangle)]
-pub extern "C" fn probe_write_file(net: &[u32], res: &mut [u8]) -> Reply
+pub fn probe_write_file(net: &[u32], res: &mut [u8]) -> Reply
     ensures { WriteReply net.now res.old result res.new }
 {
     told(file::write_file(net, res))
 }
 
-#[unsafe(no_mangle)]
-pub extern "C" fn probe_check_file(source: &[u8]) -> Reply
+pub fn probe_check_file(source: &[u8]) -> Reply
     ensures { result ≡ reply_of (check_answer Full source.now) }
 {
     told(file::check_file(source))
@@ -323,28 +297,19 @@ fn printout_of(printing: Printing) -> Printout
     }
 }
 
-#[unsafe(no_mangle)]
-pub extern "C" fn probe_print(input: &[u8], res: &mut [u8]) -> Printout
+pub fn probe_print(input: &[u8], res: &mut [u8]) -> Printout
     ensures { PrintReply input.now res.old result res.new }
 {
     printout_of(text::print_text(input, res))
 }
 
-#[unsafe(no_mangle)]
-pub extern "C" fn probe_append(
-    key: &[u8],
-    record: &[u8],
-    iv: &[u8],
-    file: &[u8],
-    frame: &mut [u8],
-) -> Reply
+pub fn probe_append(key: &[u8], record: &[u8], iv: &[u8], file: &[u8], frame: &mut [u8]) -> Reply
     ensures { AppendReply key.now «record».now iv.now file.now frame.old result frame.new }
 {
     told(frames::append(key, record, iv, file, frame))
 }
 
-#[unsafe(no_mangle)]
-pub extern "C" fn probe_append_after(
+pub fn probe_append_after(
     key: &[u8],
     record: &[u8],
     iv: &[u8],
@@ -356,15 +321,13 @@ pub extern "C" fn probe_append_after(
     told(frames::append_after(key, record, iv, last, frame))
 }
 
-#[unsafe(no_mangle)]
-pub extern "C" fn probe_read_frames(key: &[u8], file: &[u8], records: &mut [u8]) -> Reply
+pub fn probe_read_frames(key: &[u8], file: &[u8], records: &mut [u8]) -> Reply
     ensures { FramesReply key.now file.now records.old result records.new }
 {
     told(frames::read(key, file, records))
 }
 
-#[unsafe(no_mangle)]
-pub extern "C" fn probe_check_frames(file: &[u8]) -> Reply
+pub fn probe_check_frames(file: &[u8]) -> Reply
     ensures { result ≡ reply_of (file_answer 1 file.now) }
 {
     told(frames::check(file))
@@ -401,15 +364,13 @@ fn fielding_of(found: Found) -> Fielding
     }
 }
 
-#[unsafe(no_mangle)]
-pub extern "C" fn probe_fields(bits: &[u8]) -> Fielding
+pub fn probe_fields(bits: &[u8]) -> Fielding
     ensures { result ≡ fielding_of (found_by (fields_answer bits.now) (port_of bits.now)) }
 {
     fielding_of(port::fields(bits))
 }
 
-#[unsafe(no_mangle)]
-pub extern "C" fn probe_bits(
+pub fn probe_bits(
     port: u32,
     admin: u32,
     link: u32,
