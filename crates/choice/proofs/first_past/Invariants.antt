@@ -1,0 +1,11 @@
+use Prim.Native.Nat.{◌-◌}
+use lib.ListN.{length}
+use Rattle.answer.specs.First.{Scan}
+use Rattle.choice.specs.Choice.{past_draw}
+use Rattle.choice.proofs.first_past.Given as goal
+
+abbrev pub invariant-loop-i : goal.invariant-loop-i
+invariant-loop-i l = Scan (past_draw l.key l.draws) (length l.draws) l.i
+
+abbrev pub decreases-loop-i : goal.decreases-loop-i
+decreases-loop-i l = length l.draws - l.i

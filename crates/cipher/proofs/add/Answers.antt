@@ -1,0 +1,20 @@
+use mathlib.Core.Path.{◌≡◌, ◌∙◌}
+use native.Mathlib.Omega.{arith}
+use lib.ListN.{length}
+use Rattle.cipher.proofs.Sums.{sums_none, sums_next, sums-all}
+use borrow.Author.Rules.{rules}
+use Rattle.cipher.proofs.add.Goals as goal
+
+pub loop-i-init : goal.loop-i-init
+loop-i-init c =
+    let a = c.args in
+    (sums_none a.«record».now a.out.now c.requires, search rules, search rules, search rules)
+
+pub loop-i-preserved : goal.loop-i-preserved
+loop-i-preserved c =
+    (sums_next c.args.«record».now c.args.out.now c.requires c.loop-i.i c.loop-i.out (search rules) c.loop-i.invariant.0, search rules, search rules, search rules)
+
+pub returns : goal.returns
+returns c =
+    let e : c.loop-i.i ≡ length c.args.«record».now = omega arith in
+    c.loop-i.invariant.0 ∙ sums-all c.args.«record».now c.args.out.now c.requires _ e

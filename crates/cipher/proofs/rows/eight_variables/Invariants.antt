@@ -1,0 +1,12 @@
+use Prim.Native.Nat.{ℕ, ◌+◌, ◌-◌, ◌%◌, ◌<◌, ◌≤◌}
+use mathlib.Core.Path.{◌≡◌}
+use lib.ListN.{length, get_or}
+use Rattle.instance.specs.Keys.{key_in}
+use Rattle.filter.specs.Filter.{var}
+use Rattle.cipher.proofs.rows.eight_variables.Given as goal
+
+abbrev pub invariant-loop-t : goal.invariant-loop-t
+invariant-loop-t l = (l.t ≤ 8) × (length l.some ≡ 8) × ((s : ℕ) → s < l.t → get_or l.some s 0 % 2 ≡ var (key_in l.instance l.key) l.row l.w (l.i + s))
+
+abbrev pub decreases-loop-t : goal.decreases-loop-t
+decreases-loop-t l = 8 - l.t

@@ -1,0 +1,118 @@
+use Prim.Native.Nat.{ℕ, ◌≤◌}
+use mathlib.Core.Path.{◌≡◌, refl, sym, ◌∙◌}
+use native.Mathlib.Omega.{arith}
+use lib.ListN.{length, get_or, take}
+use lib.Seq.{length-take-le}
+use Rattle.answer.specs.declared.Answer.TheVariants.{Done}
+use Rattle.answer.proofs.Over.{kept, made}
+use Rattle.kreyvium.specs.Words.{tops}
+use Rattle.instance.specs.Wired.{Wired, Bits}
+use Rattle.instance.specs.Keys.{Keyed, key_in}
+use Rattle.judging.specs.Judging.{encipher_answer}
+use Rattle.judging.proofs.Accepted.{encipher_wired}
+use Rattle.cipher.specs.Cipher.{keystream_of}
+use Rattle.cipher.proofs.Accepted.{iv-lent, stream_of_lem}
+use Rattle.cipher.proofs.Block.{stream-words}
+use Rattle.cipher.proofs.Written.{front_room, encipher_written}
+use borrow.Author.Rules.{rules}
+use Rattle.cipher.proofs.with_kreyvium.Goals.{After-stream64, In-Done}
+use Rattle.cipher.proofs.with_kreyvium.Goals as goal
+
+-- it is accepted
+accepted : (c : In-Done)
+    → let a = c.args in encipher_answer 6 a.m a.key.now a.«record».now a.indices.now a.iv.now (length a.res.now) ≡ Done
+accepted c = sym c.kreyvium-r.ensures ∙ c.in-Done.is
+
+wired : (c : In-Done)
+    → let a = c.args in Wired 6 a.m a.indices.now a.iv.now × Keyed 6 a.key.now × Bits a.m a.«record».now × (a.m ≤ length a.res.now)
+wired c =
+    let a = c.args in
+    encipher_wired 6 a.m a.key.now a.«record».now a.indices.now a.iv.now _ (accepted c)
+
+-- so the IV can be packed
+read : (c : In-Done)
+    → let a = c.args in (a.m ≤ 64) × (length a.iv.now ≡ 128) × ((i : ℕ) → get_or a.iv.now i 0 ≤ 1)
+read c =
+    let a = c.args in
+    iv-lent 6 a.m a.indices.now a.iv.now (wired c).0 refl
+
+-- the part of the result that is lent on is as long as the record
+part : (c : In-Done) → let a = c.args in length (take a.m a.res.now) ≡ a.m
+part c = let a = c.args in length-take-le a.m a.res.now (wired c).3
+
+-- it is accepted
+accepted-at-After-stream64 : (c : After-stream64)
+    → let a = c.args in encipher_answer 6 a.m a.key.now a.«record».now a.indices.now a.iv.now (length a.res.now) ≡ Done
+accepted-at-After-stream64 c = sym c.kreyvium-r.ensures ∙ c.in-Done.is
+
+wired-at-After-stream64 : (c : After-stream64)
+    → let a = c.args in Wired 6 a.m a.indices.now a.iv.now × Keyed 6 a.key.now × Bits a.m a.«record».now × (a.m ≤ length a.res.now)
+wired-at-After-stream64 c =
+    let a = c.args in
+    encipher_wired 6 a.m a.key.now a.«record».now a.indices.now a.iv.now _ (accepted-at-After-stream64 c)
+
+-- so the IV can be packed
+read-at-After-stream64 : (c : After-stream64)
+    → let a = c.args in (a.m ≤ 64) × (length a.iv.now ≡ 128) × ((i : ℕ) → get_or a.iv.now i 0 ≤ 1)
+read-at-After-stream64 c =
+    let a = c.args in
+    iv-lent 6 a.m a.indices.now a.iv.now (wired-at-After-stream64 c).0 refl
+
+-- the part of the result that is lent on is as long as the record
+part-at-After-stream64 : (c : After-stream64) → let a = c.args in length (take a.m a.res.now) ≡ a.m
+part-at-After-stream64 c = let a = c.args in length-take-le a.m a.res.now (wired-at-After-stream64 c).3
+
+-- the block's first bits are the keystream
+streamed : (c : After-stream64)
+    → let a = c.args in
+    tops (length (take a.m a.res.now)) c.stream64.result ≡ keystream_of 6 (length (take a.m a.res.now)) (key_in 6 a.key.now) a.indices.now a.iv.now
+streamed c =
+    let a = c.args in
+    let r = read-at-After-stream64 c in
+    c.stream64.ensures _ (rw (part-at-After-stream64 c) r.0)
+    ∙ stream-words a.key.now a.iv.now (wired-at-After-stream64 c).1 r.1 r.2 _ _ _ _ _ c.key_word-k0.ensures c.key_word-k1.ensures c.word-v0.ensures c.word-v1.ensures
+    ∙ stream_of_lem 6 _ (key_in 6 a.key.now) a.indices.now a.iv.now refl
+
+pub returns-in_default : goal.returns-in_default
+returns-in_default c =
+    record {
+      answered = c.kreyvium-r.ensures;
+      written = kept _ c.args.res.now c.in_default.is;
+    }
+
+pub key_word-k0-requires : goal.key_word-k0-requires
+key_word-k0-requires c = ((wired c).1, search rules)
+
+pub key_word-k1-requires : goal.key_word-k1-requires
+key_word-k1-requires c = ((wired (goal.at.key_word-k1-requires c).In-Done).1, search rules)
+
+pub word-v0-requires : goal.word-v0-requires
+word-v0-requires c = let r = read (goal.at.word-v0-requires c).In-Done in (omega (arith, r.1), r.2)
+
+pub word-v1-requires : goal.word-v1-requires
+word-v1-requires c = let r = read (goal.at.word-v1-requires c).In-Done in (omega (arith, r.1), r.2)
+
+pub slice_bounds-put_front-end : goal.slice_bounds-put_front-end
+slice_bounds-put_front-end c = (wired (goal.at.slice_bounds-put_front-end c).In-Done).3
+
+pub slice_bounds-put_front-end-2 : goal.slice_bounds-put_front-end-2
+slice_bounds-put_front-end-2 c = sym (part (goal.at.slice_bounds-put_front-end-2 c).In-Done)
+
+pub put_front-requires : goal.put_front-requires
+put_front-requires c = rw (part (goal.at.put_front-requires c).In-Done) (read (goal.at.put_front-requires c).In-Done).0
+
+pub add-requires : goal.add-requires
+add-requires c =
+    let a = c.args in
+    front_room 6 a.m (key_in 6 a.key.now) a.indices.now a.iv.now a.res.now _ (wired (goal.at.add-requires c).In-Done).3 (c.put_front.ensures ∙ streamed (goal.at.add-requires c).After-stream64) a.«record».now (wired (goal.at.add-requires c).In-Done).2.size
+
+pub returns : goal.returns
+returns c =
+    let a = c.args in
+    record {
+      answered = sym (accepted (goal.at.returns c).In-Done);
+      written =
+          c.add.ensures
+          ∙ encipher_written 6 a.m (key_in 6 a.key.now) a.indices.now a.iv.now a.res.now _ (wired (goal.at.returns c).In-Done).3 (c.put_front.ensures ∙ streamed (goal.at.returns c).After-stream64) a.«record».now (wired (goal.at.returns c).In-Done).2.size
+          ∙ made _ _ refl;
+    }

@@ -1,0 +1,16 @@
+use mathlib.Core.Path.{ap}
+use native.Mathlib.Omega.{arith}
+use lib.ListN.{length}
+use Rattle.emit.proofs.Shapes.{part-cells, part_wrote}
+use Rattle.emit.proofs.levels.put_threshold.Goals as goal
+
+pub put_cells-free-requires : goal.put_cells-free-requires
+put_cells-free-requires c =
+    let a = c.args in
+    let e = ap length (part-cells a.next a.d a.ws.now c.requires.0.0 c.requires.0.2 c.requires.0.3) in
+    ((omega arith, omega arith, omega arith, omega arith), omega arith)
+
+pub returns : goal.returns
+returns c =
+    let a = c.args in
+    record { wrote = part_wrote a.next a.d a.ws.now a.out.now _ a.at _ _ (omega arith) (omega arith) (omega arith) c.put_cells-free.ensures.out_after c.put_cells-free.ensures.value.0 c.down_of.ensures.1; upper_bound = omega arith }

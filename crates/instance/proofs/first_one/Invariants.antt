@@ -1,0 +1,11 @@
+use Prim.Native.Nat.{◌-◌}
+use lib.ListN.{length}
+use Rattle.answer.specs.First.{Scan}
+use Rattle.instance.specs.Judging.{is_one}
+use Rattle.instance.proofs.first_one.Given as goal
+
+abbrev pub invariant-loop-i : goal.invariant-loop-i
+invariant-loop-i l = Scan (is_one l.s) (length l.s) l.i
+
+abbrev pub decreases-loop-i : goal.decreases-loop-i
+decreases-loop-i l = length l.s - l.i

@@ -1,0 +1,12 @@
+use Prim.Native.Nat.{ℕ, ◌+◌, ◌-◌, ◌%◌}
+use mathlib.Core.Path.{ap₂, ◌∙◌}
+use native.Mathlib.Omega.{arith}
+use Rattle.kreyvium.specs.Early.{early}
+use Rattle.kreyvium.proofs.Windows.{shown}
+use Rattle.kreyvium.proofs.State.taps_a.Goals as goal
+
+pub returns : goal.returns
+unfolding early
+returns c =
+    let a = c.args in
+    λ i h. c.windows.ensures i h ∙ ap₂ (λ (x y : ℕ). (x + y) % 2) (shown (a.n - 64) (a.n - 1) 93 i _ (omega arith) (omega arith) (omega arith) h) (shown (a.m - 64) (a.m - 1) 93 i _ (omega arith) (omega arith) (omega arith) h)

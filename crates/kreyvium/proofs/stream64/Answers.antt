@@ -1,0 +1,9 @@
+use Rattle.kreyvium.specs.Kreyvium.{stream, stream_of, rounds}
+use mathlib.Core.Path.{◌∙◌, ap}
+use Rattle.kreyvium.proofs.stream64.Goals as goal
+
+pub returns : goal.returns
+unfolding stream_of
+returns c = λ n h.
+    c.outputs64.ensures n h
+    ∙ ap (stream n) (c.warmed-t.ensures ∙ ap (rounds 1152) c.load-s.ensures)

@@ -1,0 +1,334 @@
+use mathlib.Core.Path.{sym, ap}
+use native.Mathlib.Omega.{arith}
+use lib.Seq.{length-take-le}
+use Rattle.instance.specs.declared.Sizes.{Sizes}
+use Rattle.instance.proofs.Judged.{key_small}
+use Rattle.path.proofs.Writing.{enciphered, emitted, key_lent, enc_room, net_ready, inputs_room, glued_ready, scored}
+use Rattle.path.proofs.write.results.Goals as goal
+
+pub glue_behind-requires : goal.glue_behind-requires
+glue_behind-requires c =
+    let e = enciphered (let a = c.args in
+    record {
+      inst = a.instance;
+      m = a.m;
+      key = a.key.now;
+      rec = a.«record».now;
+      idx = a.indices.now;
+      wh = a.whitening.now;
+      score = a.scoring.now;
+      enc = a.enciphered.now;
+      net = a.deciphering.now;
+      glued = a.glued.now;
+      inp = a.inputs.now;
+      vals = a.wires.now;
+      out = a.scores.now;
+    }) c.requires c.encipher.ensures in
+    let n = emitted (let a = c.args in
+    record {
+      inst = a.instance;
+      m = a.m;
+      key = a.key.now;
+      rec = a.«record».now;
+      idx = a.indices.now;
+      wh = a.whitening.now;
+      score = a.scoring.now;
+      enc = a.enciphered.now;
+      net = a.deciphering.now;
+      glued = a.glued.now;
+      inp = a.inputs.now;
+      vals = a.wires.now;
+      out = a.scores.now;
+    }) c.requires c.emit_decipher.ensures in
+    net_ready (let a = c.args in
+    record {
+      inst = a.instance;
+      m = a.m;
+      key = a.key.now;
+      rec = a.«record».now;
+      idx = a.indices.now;
+      wh = a.whitening.now;
+      score = a.scoring.now;
+      enc = a.enciphered.now;
+      net = a.deciphering.now;
+      glued = a.glued.now;
+      inp = a.inputs.now;
+      vals = a.wires.now;
+      out = a.scores.now;
+    }) c.requires e n
+
+pub slice_bounds-join_inputs-end : goal.slice_bounds-join_inputs-end
+slice_bounds-join_inputs-end c =
+    let e = enciphered (let a = c.args in
+    record {
+      inst = a.instance;
+      m = a.m;
+      key = a.key.now;
+      rec = a.«record».now;
+      idx = a.indices.now;
+      wh = a.whitening.now;
+      score = a.scoring.now;
+      enc = a.enciphered.now;
+      net = a.deciphering.now;
+      glued = a.glued.now;
+      inp = a.inputs.now;
+      vals = a.wires.now;
+      out = a.scores.now;
+    }) c.requires c.encipher.ensures in
+    let n = emitted (let a = c.args in
+    record {
+      inst = a.instance;
+      m = a.m;
+      key = a.key.now;
+      rec = a.«record».now;
+      idx = a.indices.now;
+      wh = a.whitening.now;
+      score = a.scoring.now;
+      enc = a.enciphered.now;
+      net = a.deciphering.now;
+      glued = a.glued.now;
+      inp = a.inputs.now;
+      vals = a.wires.now;
+      out = a.scores.now;
+    }) c.requires c.emit_decipher.ensures in
+    enc_room (let a = c.args in
+    record {
+      inst = a.instance;
+      m = a.m;
+      key = a.key.now;
+      rec = a.«record».now;
+      idx = a.indices.now;
+      wh = a.whitening.now;
+      score = a.scoring.now;
+      enc = a.enciphered.now;
+      net = a.deciphering.now;
+      glued = a.glued.now;
+      inp = a.inputs.now;
+      vals = a.wires.now;
+      out = a.scores.now;
+    }) c.requires e n
+
+pub slice_bounds-join_inputs-end-2 : goal.slice_bounds-join_inputs-end-2
+slice_bounds-join_inputs-end-2 c =
+    let e = enciphered (let a = c.args in
+    record {
+      inst = a.instance;
+      m = a.m;
+      key = a.key.now;
+      rec = a.«record».now;
+      idx = a.indices.now;
+      wh = a.whitening.now;
+      score = a.scoring.now;
+      enc = a.enciphered.now;
+      net = a.deciphering.now;
+      glued = a.glued.now;
+      inp = a.inputs.now;
+      vals = a.wires.now;
+      out = a.scores.now;
+    }) c.requires c.encipher.ensures in
+    let n = emitted (let a = c.args in
+    record {
+      inst = a.instance;
+      m = a.m;
+      key = a.key.now;
+      rec = a.«record».now;
+      idx = a.indices.now;
+      wh = a.whitening.now;
+      score = a.scoring.now;
+      enc = a.enciphered.now;
+      net = a.deciphering.now;
+      glued = a.glued.now;
+      inp = a.inputs.now;
+      vals = a.wires.now;
+      out = a.scores.now;
+    }) c.requires c.emit_decipher.ensures in
+    sym (length-take-le _ _ (enc_room (let a = c.args in
+    record {
+      inst = a.instance;
+      m = a.m;
+      key = a.key.now;
+      rec = a.«record».now;
+      idx = a.indices.now;
+      wh = a.whitening.now;
+      score = a.scoring.now;
+      enc = a.enciphered.now;
+      net = a.deciphering.now;
+      glued = a.glued.now;
+      inp = a.inputs.now;
+      vals = a.wires.now;
+      out = a.scores.now;
+    }) c.requires e n))
+
+pub join_inputs-requires : goal.join_inputs-requires
+join_inputs-requires c =
+    let e = enciphered (let a = c.args in
+    record {
+      inst = a.instance;
+      m = a.m;
+      key = a.key.now;
+      rec = a.«record».now;
+      idx = a.indices.now;
+      wh = a.whitening.now;
+      score = a.scoring.now;
+      enc = a.enciphered.now;
+      net = a.deciphering.now;
+      glued = a.glued.now;
+      inp = a.inputs.now;
+      vals = a.wires.now;
+      out = a.scores.now;
+    }) c.requires c.encipher.ensures in
+    let n = emitted (let a = c.args in
+    record {
+      inst = a.instance;
+      m = a.m;
+      key = a.key.now;
+      rec = a.«record».now;
+      idx = a.indices.now;
+      wh = a.whitening.now;
+      score = a.scoring.now;
+      enc = a.enciphered.now;
+      net = a.deciphering.now;
+      glued = a.glued.now;
+      inp = a.inputs.now;
+      vals = a.wires.now;
+      out = a.scores.now;
+    }) c.requires c.emit_decipher.ensures in
+    let bits = ap Sizes.key c.sizes_of-sizes.ensures in
+    (key_lent (let a = c.args in
+    record {
+      inst = a.instance;
+      m = a.m;
+      key = a.key.now;
+      rec = a.«record».now;
+      idx = a.indices.now;
+      wh = a.whitening.now;
+      score = a.scoring.now;
+      enc = a.enciphered.now;
+      net = a.deciphering.now;
+      glued = a.glued.now;
+      inp = a.inputs.now;
+      vals = a.wires.now;
+      out = a.scores.now;
+    }) c.requires, bits, omega (arith, bits, inputs_room (let a = c.args in
+    record {
+      inst = a.instance;
+      m = a.m;
+      key = a.key.now;
+      rec = a.«record».now;
+      idx = a.indices.now;
+      wh = a.whitening.now;
+      score = a.scoring.now;
+      enc = a.enciphered.now;
+      net = a.deciphering.now;
+      glued = a.glued.now;
+      inp = a.inputs.now;
+      vals = a.wires.now;
+      out = a.scores.now;
+    }) c.requires e n))
+
+pub overflow_add-sizes : goal.overflow_add-sizes
+overflow_add-sizes c =
+    record { fits = omega (arith, ap Sizes.key c.sizes_of-sizes.ensures, key_small c.args.instance) }
+
+pub evaluate_front-requires : goal.evaluate_front-requires
+evaluate_front-requires c =
+    let e = enciphered (let a = c.args in
+    record {
+      inst = a.instance;
+      m = a.m;
+      key = a.key.now;
+      rec = a.«record».now;
+      idx = a.indices.now;
+      wh = a.whitening.now;
+      score = a.scoring.now;
+      enc = a.enciphered.now;
+      net = a.deciphering.now;
+      glued = a.glued.now;
+      inp = a.inputs.now;
+      vals = a.wires.now;
+      out = a.scores.now;
+    }) c.requires c.encipher.ensures in
+    let n = emitted (let a = c.args in
+    record {
+      inst = a.instance;
+      m = a.m;
+      key = a.key.now;
+      rec = a.«record».now;
+      idx = a.indices.now;
+      wh = a.whitening.now;
+      score = a.scoring.now;
+      enc = a.enciphered.now;
+      net = a.deciphering.now;
+      glued = a.glued.now;
+      inp = a.inputs.now;
+      vals = a.wires.now;
+      out = a.scores.now;
+    }) c.requires c.emit_decipher.ensures in
+    rw (ap Sizes.key c.sizes_of-sizes.ensures) (glued_ready (let a = c.args in
+    record {
+      inst = a.instance;
+      m = a.m;
+      key = a.key.now;
+      rec = a.«record».now;
+      idx = a.indices.now;
+      wh = a.whitening.now;
+      score = a.scoring.now;
+      enc = a.enciphered.now;
+      net = a.deciphering.now;
+      glued = a.glued.now;
+      inp = a.inputs.now;
+      vals = a.wires.now;
+      out = a.scores.now;
+    }) c.requires e n c.glue_behind.ensures c.join_inputs.ensures)
+
+pub returns : goal.returns
+returns c =
+    let e = enciphered (let a = c.args in
+    record {
+      inst = a.instance;
+      m = a.m;
+      key = a.key.now;
+      rec = a.«record».now;
+      idx = a.indices.now;
+      wh = a.whitening.now;
+      score = a.scoring.now;
+      enc = a.enciphered.now;
+      net = a.deciphering.now;
+      glued = a.glued.now;
+      inp = a.inputs.now;
+      vals = a.wires.now;
+      out = a.scores.now;
+    }) c.requires c.encipher.ensures in
+    let n = emitted (let a = c.args in
+    record {
+      inst = a.instance;
+      m = a.m;
+      key = a.key.now;
+      rec = a.«record».now;
+      idx = a.indices.now;
+      wh = a.whitening.now;
+      score = a.scoring.now;
+      enc = a.enciphered.now;
+      net = a.deciphering.now;
+      glued = a.glued.now;
+      inp = a.inputs.now;
+      vals = a.wires.now;
+      out = a.scores.now;
+    }) c.requires c.emit_decipher.ensures in
+    let bits = ap Sizes.key c.sizes_of-sizes.ensures in
+    scored (let a = c.args in
+    record {
+      inst = a.instance;
+      m = a.m;
+      key = a.key.now;
+      rec = a.«record».now;
+      idx = a.indices.now;
+      wh = a.whitening.now;
+      score = a.scoring.now;
+      enc = a.enciphered.now;
+      net = a.deciphering.now;
+      glued = a.glued.now;
+      inp = a.inputs.now;
+      vals = a.wires.now;
+      out = a.scores.now;
+    }) c.requires e n c.glue_behind.ensures c.join_inputs.ensures (rw bits at c.evaluate_front.ensures.wires_after) (rw bits at c.evaluate_front.ensures.scores_after)
