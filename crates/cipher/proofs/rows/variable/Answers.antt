@@ -11,4 +11,4 @@ overflow_cast-p c =
 pub returns : goal.returns
 returns c =
     let a = c.args in
-    low_bit (key_in a.instance a.key.now) a.row.now a.w.now a.j c.key_bit_lem.result c.key_bit_lem.ensures
+    low_bit (key_in a.instance a.key.now) a.row.now a.w.now a.j c.key_bit.result c.key_bit.ensures
