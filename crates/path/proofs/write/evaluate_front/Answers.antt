@@ -17,4 +17,5 @@ slice_bounds-evaluate-end-2 c =
 pub returns : goal.returns
 returns c =
     let a = c.args in
-    evaluated (front a.glued.now) (take a.count a.inputs.now) a.wires.now a.scores.now c.requires.2 (rw (front_is _ _ c.front_size-end.ensures) at c.evaluate.ensures)
+    let r = evaluated (front a.glued.now) (take a.count a.inputs.now) a.wires.now a.scores.now c.requires.2 (rw (front_is a.glued.now c.front_size-end.result c.front_size-end.ensures) at c.evaluate.ensures) in
+    record { wires_after = r.0; scores_after = r.1 }
