@@ -4,5 +4,3 @@ pub mod Levels
 pub mod Spots
 pub mod Judged
 pub mod Promise
-pub mod Again
-pub mod Shared
