@@ -46,7 +46,7 @@ returns-in_default-s c =
 
 pub put_decipher-requires : goal.put_decipher-requires
 put_decipher-requires c =
-    (wiring_wired _ _ _ _ (accepted (goal.at.put_decipher-requires c).In-Done), room_done 3 _ _ (sym (due (goal.at.put_decipher-requires c).After-room-s) ∙ c.in-Done-s.is))
+    record { wired = wiring_wired _ _ _ _ (accepted (goal.at.put_decipher-requires c).In-Done); whitening_in_bounds = room_done 3 _ _ (sym (due (goal.at.put_decipher-requires c).After-room-s) ∙ c.in-Done-s.is) }
 
 pub returns : goal.returns
 returns c =

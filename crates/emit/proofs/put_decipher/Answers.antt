@@ -8,12 +8,12 @@ use Rattle.emit.proofs.put_decipher.Goals as goal
 
 pub returns-then-instance-eq6 : goal.returns-then-instance-eq6
 returns-then-instance-eq6 c =
-    kreyvium_emitted _ _ _ _ _ _ _ c.requires.0 c.if-instance-eq6.true c.requires.1 c.emit_kreyvium.ensures
+    kreyvium_emitted _ _ _ _ _ _ _ c.requires.wired c.if-instance-eq6.true c.requires.whitening_in_bounds c.emit_kreyvium.ensures
 
 pub put_rows_net-requires : goal.put_rows_net-requires
 put_rows_net-requires c =
     let n = c.if-instance-eq6.false in
-    (wiring_of _ _ _ _ c.requires.0 n, rw (net_rows _ _ _ _ n) at c.requires.1)
+    record { wiring = wiring_of _ _ _ _ c.requires.wired n; m_in_bounds = rw (net_rows _ _ _ _ n) at c.requires.whitening_in_bounds }
 
 pub returns : goal.returns
 returns c =

@@ -15,7 +15,7 @@ first_level-r-requires c =
 
 pub loop-j-init : goal.loop-j-init
 loop-j-init c =
-    climbing_start c.args.ws.now c.args.out.now _ c.args.lows c.args.highs c.args.at c.args.next _ c.requires.0.0 c.requires.0.1 c.requires.0.2 c.requires.0.3 c.first_level-r.ensures c.put_first.ensures c.requires.1
+    climbing_start c.args.ws.now c.args.out.now _ c.args.lows c.args.highs c.args.at c.args.next _ c.requires.in_bounds.0 c.requires.in_bounds.1 c.requires.in_bounds.2 c.requires.in_bounds.3 c.first_level-r.ensures c.put_first.ensures c.requires.next_in_bounds
 
 pub offset_bounds-ws-j : goal.offset_bounds-ws-j
 offset_bounds-ws-j c = omega arith

@@ -7,8 +7,8 @@ use Rattle.emit.proofs.levels.put_threshold.Goals as goal
 pub put_cells-free-requires : goal.put_cells-free-requires
 put_cells-free-requires c =
     let a = c.args in
-    let e = ap length (part-cells a.next a.d a.ws.now c.requires.0.0 c.requires.0.2 c.requires.0.3) in
-    ((omega arith, omega arith, omega arith, omega arith), omega arith)
+    let e = ap length (part-cells a.next a.d a.ws.now c.requires.in_bounds.0 c.requires.in_bounds.2 c.requires.in_bounds.3) in
+    record { in_bounds = (omega arith, omega arith, omega arith, omega arith); next_in_bounds = omega arith }
 
 pub returns : goal.returns
 returns c =

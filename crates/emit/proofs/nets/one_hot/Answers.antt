@@ -35,7 +35,7 @@ returns-in_default c =
 pub put_one_hot_gates-requires : goal.put_one_hot_gates-requires
 put_one_hot_gates-requires c =
     let a = c.args in
-    ((omega arith, omega arith), omega (arith, room (goal.at.put_one_hot_gates-requires c).In-Done, words-length (one_hot_net a.n), c.put_header.auto.out))
+    record { n_bound = (omega arith, omega arith); n_in_bounds = omega (arith, room (goal.at.put_one_hot_gates-requires c).In-Done, words-length (one_hot_net a.n), c.put_header.auto.out) }
 
 pub put_one_hot_outs-requires : goal.put_one_hot_outs-requires
 put_one_hot_outs-requires c =

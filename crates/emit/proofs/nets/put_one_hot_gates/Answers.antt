@@ -15,7 +15,7 @@ returns-then-n-eq0 c =
     alone One _ _ _ header_words (hot_none c.args.n c.if-n-eq0.true) c.put_gate.ensures
 
 pub put_input_cells-requires : goal.put_input_cells-requires
-put_input_cells-requires c = let e = ap length (hot_cells c.args.n c.if-n-eq0.false) in ((omega arith, omega arith, omega arith), omega arith)
+put_input_cells-requires c = let e = ap length (hot_cells c.args.n c.if-n-eq0.false) in record { le_n = (omega arith, omega arith, omega arith); n_in_bounds = omega arith }
 
 pub returns : goal.returns
 returns c =

@@ -15,7 +15,7 @@ returns-then-n-d c =
     alone Zero _ _ _ header_words (threshold_zero c.args.d c.args.n c.if-n-d.true (omega arith)) c.put_gate.ensures
 
 pub put_input_cells-requires : goal.put_input_cells-requires
-put_input_cells-requires c = let e = ap length (threshold-cells c.args.d c.args.n (omega arith) c.if-n-d.false) in ((omega arith, omega arith, omega arith), omega arith)
+put_input_cells-requires c = let e = ap length (threshold-cells c.args.d c.args.n (omega arith) c.if-n-d.false) in record { le_n = (omega arith, omega arith, omega arith); n_in_bounds = omega arith }
 
 pub returns : goal.returns
 returns c =

@@ -38,7 +38,7 @@ pub put_threshold_gates-requires : goal.put_threshold_gates-requires
 put_threshold_gates-requires c =
     let a = c.args in
     let g = shape_good a.d a.n c.requires.0 in
-    ((omega arith, omega arith, omega arith, omega arith), omega (arith, room (goal.at.put_threshold_gates-requires c).In-Done, words-length (threshold_net a.d a.n), c.put_header.auto.out))
+    record { n_bound = (omega arith, omega arith, omega arith, omega arith); n_in_bounds = omega (arith, room (goal.at.put_threshold_gates-requires c).In-Done, words-length (threshold_net a.d a.n), c.put_header.auto.out) }
 
 pub overflow_add-n : goal.overflow_add-n
 overflow_add-n c =

@@ -13,25 +13,25 @@ use Rattle.emit.proofs.rows.put_bit.Goals as goal
 pub returns-then-or_all-eq0 : goal.returns-then-or_all-eq0
 returns-then-or_all-eq0 c =
     let ws = c.args.ws.now in
-    bit_bare _ _ _ _ _ c.requires.0.0 c.requires.0.1 (vars-length _ _ _ ∙ c.requires.0.2) _ _ _ _
+    bit_bare _ _ _ _ _ c.requires.le_instance.0 c.requires.le_instance.1 (vars-length _ _ _ ∙ c.requires.le_instance.2) _ _ _ _
     (bare _ _ _ (λ k h. omega (arith, or_above ws _ k h, c.or_all.ensures, c.if-or_all-eq0.true))) c.put_filtered.ensures
 
 pub put_vars-free-requires : goal.put_vars-free-requires
 put_vars-free-requires c =
-    let q = large c.args.instance c.requires.0.0 c.requires.0.1 in
+    let q = large c.args.instance c.requires.le_instance.0 c.requires.le_instance.1 in
     let f = nots_few c.args.row.now c.args.ws.now in
-    ((omega arith, omega arith), (omega (arith, q.row_least, q.row_most), omega (arith, q.row_most, q.bit_most)))
+    record { ws_len = (omega arith, omega arith); ws_in_bounds = (omega (arith, q.row_least, q.row_most), omega (arith, q.row_most, q.bit_most)) }
 
 pub put_filtered-requires-2 : goal.put_filtered-requires-2
 put_filtered-requires-2 c =
-    let q = large c.args.instance c.requires.0.0 c.requires.0.1 in
+    let q = large c.args.instance c.requires.le_instance.0 c.requires.le_instance.1 in
     let f = nots_few c.args.row.now c.args.ws.now in
     let v = c.put_vars-free.ensures in
-    let x = vars-at c.args.next 81 c.args.row.now c.args.ws.now (omega (arith, q.row_least)) c.requires.1.0.0 in
-    let e = ap (λ (l : List ℕ). get_or l 81 0) v.1.1 in
-    ((c.requires.0.0, c.requires.0.1, omega arith, omega (arith, v.0), omega (arith, v.0, q.row_most, q.bit_most)), omega (arith, v.0))
+    let x = vars-at c.args.next 81 c.args.row.now c.args.ws.now (omega (arith, q.row_least)) c.requires.row_bound.0 in
+    let e = ap (λ (l : List ℕ). get_or l 81 0) v.xs_after in
+    record { le_instance = (c.requires.le_instance.0, c.requires.le_instance.1, omega arith, omega (arith, v.value), omega (arith, v.value, q.row_most, q.bit_most)); instance_in_bounds = omega (arith, v.value) }
 
 pub returns : goal.returns
 returns c =
-    bit_wrote _ _ _ _ _ c.requires.0.0 c.requires.0.1 (vars-length _ _ _ ∙ c.requires.0.2) _ _ _ _ _ _ _ c.put_vars-free.ensures.g_after c.put_vars-free.ensures.value c.put_vars-free.ensures.xs_after
+    bit_wrote _ _ _ _ _ c.requires.le_instance.0 c.requires.le_instance.1 (vars-length _ _ _ ∙ c.requires.le_instance.2) _ _ _ _ _ _ _ c.put_vars-free.ensures.g_after c.put_vars-free.ensures.value c.put_vars-free.ensures.xs_after
     c.put_filtered-2.ensures

@@ -6,16 +6,16 @@ use Rattle.emit.proofs.rows.put_bits.Goals as goal
 
 turn_at : (l : In-loop-j) → let a = l.args in Turn a.instance a.idx.now a.wh.now l.loop-j.out l.loop-j.xs l.loop-j.i l.loop-j.wire l.loop-j.start l.loop-j.j
 turn_at l =
-    let p = l.requires.0 in
+    let p = l.requires.wiring in
     turn _ _ _ _ _ _ _ p.0 (omega arith) p.4 _ _ _ _ _ _ _ l.loop-j.invariant (omega arith)
 
 bound_at : (b : After-put_bit-last) → Bound b.loop-j.out b.loop-j.i b.loop-j.wire b.put_bit-last.result
 bound_at b =
-    let p = b.requires.0 in
+    let p = b.requires.wiring in
     last_bound _ _ _ _ _ _ _ p.0 (omega arith) p.4 _ _ _ _ _ _ _ b.loop-j.invariant (omega arith) _ p.1 _ _ b.put_bit-last.ensures
 
 pub loop-j-init : goal.loop-j-init
-loop-j-init c = bitting_start _ _ _ _ _ _ _ c.requires.0.0 (omega arith) c.requires.0.4 _ _ c.requires.0.2 refl c.requires.1
+loop-j-init c = bitting_start _ _ _ _ _ _ _ c.requires.wiring.0 (omega arith) c.requires.wiring.4 _ _ c.requires.wiring.2 refl c.requires.next_in_bounds
 
 pub overflow_add-end : goal.overflow_add-end
 overflow_add-end c = omega (arith, (turn_at c).row_most, (turn_at c).ends)
@@ -49,9 +49,9 @@ slice_bounds-put_bit-end-in-loop-j c = omega (arith, (turn_at (goal.at.slice_bou
 
 pub put_bit-last-requires : goal.put_bit-last-requires
 put_bit-last-requires c =
-    let p = c.requires.0 in
+    let p = c.requires.wiring in
     let t = turn_at (goal.at.put_bit-last-requires c).In-loop-j in
-    ((p.0.low, p.0.high, t.row, t.white ∙ sym t.row, omega (arith, t.row)), ((t.below, t.small), t.space))
+    record { le_instance = (p.0.low, p.0.high, t.row, t.white ∙ sym t.row, omega (arith, t.row)); row_bound = (t.below, t.small); instance_in_bounds = t.space }
 
 pub offset_bounds-wires-j : goal.offset_bounds-wires-j
 offset_bounds-wires-j c = omega arith
@@ -91,7 +91,7 @@ loop-j-smaller c = omega arith
 
 pub loop-j-preserved : goal.loop-j-preserved
 loop-j-preserved c =
-    let p = c.requires.0 in
+    let p = c.requires.wiring in
     bitting_turn _ _ _ _ _ _ _ p.0 (omega arith) p.4 _ _ _ _ _ _ _ c.loop-j.invariant (omega arith) _ p.1 _ _ c.put_bit-last.ensures _ c.put_bit-last.auto.xs
 
 pub shape_of-out : goal.shape_of-out
@@ -99,11 +99,11 @@ shape_of-out c = c.loop-j.invariant.out_long
 
 pub shape_of-xs : goal.shape_of-xs
 shape_of-xs c =
-    c.loop-j.invariant.xs_long ∙ sym c.requires.0.2
+    c.loop-j.invariant.xs_long ∙ sym c.requires.wiring.2
 
 pub shape_of-wires : goal.shape_of-wires
 shape_of-wires c = c.loop-j.invariant.wires_long
 
 pub returns : goal.returns
 returns c =
-    bitting_end _ _ _ _ _ _ _ c.requires.0.0 (omega arith) c.requires.0.4 _ _ _ _ _ _ _ c.loop-j.invariant (omega arith)
+    let e = bitting_end _ _ _ _ _ _ _ c.requires.wiring.0 (omega arith) c.requires.wiring.4 _ _ _ _ _ _ _ c.loop-j.invariant (omega arith) in record { out_after = e.0; wires_after = e.1 }

@@ -15,19 +15,19 @@ bounds-degrees-0 c = omega arith
 pub slice_bounds-put_chain-end : goal.slice_bounds-put_chain-end
 slice_bounds-put_chain-end c =
     let p = c.requires in
-    let f = summing_first [] 0 0 c.args.degrees.now c.args.xs.now p.0.0 p.0.1 in
+    let f = summing_first [] 0 0 c.args.degrees.now c.args.xs.now p.in_bounds.0 p.in_bounds.1 in
     omega (arith, length-take c.wide-first.result c.args.xs.now)
 
 pub put_chain-acc-requires : goal.put_chain-acc-requires
 put_chain-acc-requires c =
     let p = c.requires in
-    let f = summing_first [] 0 0 c.args.degrees.now c.args.xs.now p.0.0 p.0.1 in
+    let f = summing_first [] 0 0 c.args.degrees.now c.args.xs.now p.in_bounds.0 p.in_bounds.1 in
     let l = length-take c.wide-first.result c.args.xs.now in (omega arith, omega arith, omega arith)
 
 pub loop-j-init : goal.loop-j-init
 loop-j-init c =
     let p = c.requires in
-    let g = summing_start _ _ _ _ _ _ _ _ _ p.0.0 p.0.1 c.wide-first.ensures refl c.put_chain-acc.ensures in
+    let g = summing_start _ _ _ _ _ _ _ _ _ p.in_bounds.0 p.in_bounds.1 c.wide-first.ensures refl c.put_chain-acc.ensures in
     ((_, g), λ o x. x)
 
 pub bounds-degrees-j : goal.bounds-degrees-j
@@ -89,5 +89,5 @@ shape_of-out c = as_long _ _ _ _ _ _ _ _ _ _ _ c.loop-j.invariant ∙ c.put_chai
 pub returns : goal.returns
 returns c =
     let p = c.requires in
-    let g = summing_start _ _ _ _ _ _ _ _ _ p.0.0 p.0.1 c.wide-first.ensures refl c.put_chain-acc.ensures in
+    let g = summing_start _ _ _ _ _ _ _ _ _ p.in_bounds.0 p.in_bounds.1 c.wide-first.ensures refl c.put_chain-acc.ensures in
     summing_end _ _ _ _ _ _ _ _ _ (c.loop-j.invariant.1 _ g) c.loop-j-test.false

@@ -10,35 +10,35 @@ unfolding degrees_of
 put_monomials-requires c =
     let p = c.requires in
     let e = c.in-1.is in
-    ((table_some 1 (omega arith) (omega arith), table_fits 1 _ (omega arith) (omega arith) (p.0.2 ∙ ap row_bits e)), (omega arith, omega arith))
+    record { in_bounds = (table_some 1 (omega arith) (omega arith), table_fits 1 _ (omega arith) (omega arith) (p.le_instance.2 ∙ ap row_bits e)); xs_in_bounds = (omega arith, omega arith) }
 
 pub put_monomials-requires-in-2 : goal.put_monomials-requires-in-2
 unfolding degrees_of
 put_monomials-requires-in-2 c =
     let p = c.requires in
     let e = c.in-2.is in
-    ((table_some 2 (omega arith) (omega arith), table_fits 2 _ (omega arith) (omega arith) (p.0.2 ∙ ap row_bits e)), (omega arith, omega arith))
+    record { in_bounds = (table_some 2 (omega arith) (omega arith), table_fits 2 _ (omega arith) (omega arith) (p.le_instance.2 ∙ ap row_bits e)); xs_in_bounds = (omega arith, omega arith) }
 
 pub put_monomials-requires-in-3 : goal.put_monomials-requires-in-3
 unfolding degrees_of
 put_monomials-requires-in-3 c =
     let p = c.requires in
     let e = c.in-3.is in
-    ((table_some 3 (omega arith) (omega arith), table_fits 3 _ (omega arith) (omega arith) (p.0.2 ∙ ap row_bits e)), (omega arith, omega arith))
+    record { in_bounds = (table_some 3 (omega arith) (omega arith), table_fits 3 _ (omega arith) (omega arith) (p.le_instance.2 ∙ ap row_bits e)); xs_in_bounds = (omega arith, omega arith) }
 
 pub put_monomials-requires-in-4 : goal.put_monomials-requires-in-4
 unfolding degrees_of
 put_monomials-requires-in-4 c =
     let p = c.requires in
     let e = c.in-4.is in
-    ((table_some 4 (omega arith) (omega arith), table_fits 4 _ (omega arith) (omega arith) (p.0.2 ∙ ap row_bits e)), (omega arith, omega arith))
+    record { in_bounds = (table_some 4 (omega arith) (omega arith), table_fits 4 _ (omega arith) (omega arith) (p.le_instance.2 ∙ ap row_bits e)); xs_in_bounds = (omega arith, omega arith) }
 
 pub put_monomials-requires-in_default : goal.put_monomials-requires-in_default
 unfolding degrees_of
 put_monomials-requires-in_default c =
     let p = c.requires in
     let e : c.args.instance ≡ 5 = omega arith in
-    ((table_some 5 (omega arith) (omega arith), table_fits 5 _ (omega arith) (omega arith) (p.0.2 ∙ ap row_bits e)), (omega arith, omega arith))
+    record { in_bounds = (table_some 5 (omega arith) (omega arith), table_fits 5 _ (omega arith) (omega arith) (p.le_instance.2 ∙ ap row_bits e)); xs_in_bounds = (omega arith, omega arith) }
 
 pub returns-in-1 : goal.returns-in-1
 unfolding degrees_of

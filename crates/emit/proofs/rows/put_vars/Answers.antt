@@ -6,7 +6,7 @@ use Rattle.emit.proofs.rows.put_vars.Goals as goal
 pub loop-j-init : goal.loop-j-init
 loop-j-init c =
     let s = c.requires in
-    going_start _ _ _ _ _ _ s.0.0 s.0.1 s.1.0
+    going_start _ _ _ _ _ _ s.ws_len.0 s.ws_len.1 s.ws_in_bounds.0
 
 pub offset_bounds-row-j : goal.offset_bounds-row-j
 offset_bounds-row-j c = omega arith
@@ -54,8 +54,8 @@ shape_of-out c = c.loop-j.invariant.out_long
 
 pub shape_of-xs : goal.shape_of-xs
 shape_of-xs c =
-    c.loop-j.invariant.xs_long ∙ sym c.requires.0.1
+    c.loop-j.invariant.xs_long ∙ sym c.requires.ws_len.1
 
 pub returns : goal.returns
 returns c =
-    let e = going_end _ _ _ _ _ _ _ _ _ _ c.loop-j.invariant c.loop-j-test.false in (e.count, (e.gates, e.wires))
+    let e = going_end _ _ _ _ _ _ _ _ _ _ c.loop-j.invariant c.loop-j-test.false in record { value = e.count; g_after = e.gates; xs_after = e.wires }

@@ -8,7 +8,7 @@ use Rattle.emit.proofs.rows.put_within.Goals as goal
 pub overflow_cast-key : goal.overflow_cast-key
 overflow_cast-key c =
     let z = c.sizes_of-s.ensures in
-    let p = c.requires.0 in
+    let p = c.requires.wiring in
     let q = large _ p.0.low p.0.high in
     let k = ap (λ (x : Sizes). x.key) z in
     let w = ap (λ (x : Sizes). x.row) z in
@@ -17,7 +17,7 @@ overflow_cast-key c =
 pub slice_bounds-put_net-end : goal.slice_bounds-put_net-end
 slice_bounds-put_net-end c =
     let z = c.sizes_of-s.ensures in
-    let p = c.requires.0 in
+    let p = c.requires.wiring in
     let q = large _ p.0.low p.0.high in
     let k = ap (λ (x : Sizes). x.key) z in
     let w = ap (λ (x : Sizes). x.row) z in
@@ -26,7 +26,7 @@ slice_bounds-put_net-end c =
 pub slice_bounds-put_net-end-2 : goal.slice_bounds-put_net-end-2
 slice_bounds-put_net-end-2 c =
     let z = c.sizes_of-s.ensures in
-    let p = c.requires.0 in
+    let p = c.requires.wiring in
     let q = large _ p.0.low p.0.high in
     let k = ap (λ (x : Sizes). x.key) z in
     let w = ap (λ (x : Sizes). x.row) z in
@@ -35,7 +35,7 @@ slice_bounds-put_net-end-2 c =
 pub slice_bounds-put_net-end-4 : goal.slice_bounds-put_net-end-4
 slice_bounds-put_net-end-4 c =
     let z = c.sizes_of-s.ensures in
-    let p = c.requires.0 in
+    let p = c.requires.wiring in
     let q = large _ p.0.low p.0.high in
     let k = ap (λ (x : Sizes). x.key) z in
     let w = ap (λ (x : Sizes). x.row) z in
@@ -44,10 +44,11 @@ slice_bounds-put_net-end-4 c =
 pub put_net-requires : goal.put_net-requires
 put_net-requires c =
     let z = c.sizes_of-s.ensures in
-    let p = c.requires.0 in
+    let p = c.requires.wiring in
     let q = large _ p.0.low p.0.high in
     let k = ap (λ (x : Sizes). x.key) z in
-    let w = ap (λ (x : Sizes). x.row) z in (
-      (p.0, k, omega (arith, q.row_most, q.bit_most, length-take c.sizes_of-s.result.row c.args.xs.now), omega (arith, p.0.few, length-take c.args.m c.args.wires.now)),
-      c.requires.1,
-    )
+    let w = ap (λ (x : Sizes). x.row) z in
+    record {
+      wiring = (p.0, k, omega (arith, q.row_most, q.bit_most, length-take c.sizes_of-s.result.row c.args.xs.now), omega (arith, p.0.few, length-take c.args.m c.args.wires.now));
+      m_in_bounds = c.requires.m_in_bounds;
+    }
