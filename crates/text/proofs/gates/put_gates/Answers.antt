@@ -11,7 +11,7 @@ gate_at-requires c = omega arith
 
 pub put_gate-next-requires : goal.put_gate-next-requires
 put_gate-next-requires c =
-    left_room _ _ _ c.loop-left.invariant.0 (gates_turn _ _ _ _ _ c.loop-left-test.true c.gate_at.ensures) c.requires.1
+    left_room _ _ _ c.loop-left.invariant.0 (gates_turn _ _ _ _ _ c.loop-left-test.true c.gate_at.ensures) c.requires.room
 
 pub overflow_add-place : goal.overflow_add-place
 overflow_add-place c = omega arith

@@ -16,7 +16,7 @@ text_is c = let a = c.args in counted a.words.now _ a.depth a.multiplications c.
 -- there is room for it
 whole : (c : After-counts_of-counts)
     → let a = c.args in Room (counted_text a.words.now c.counts_of-counts.result a.depth a.multiplications) a.out.now a.at
-whole c = moved_room (text_is c) c.requires.1
+whole c = moved_room (text_is c) c.requires.room
 
 pub put_sizes-i-requires : goal.put_sizes-i-requires
 unfolding counted_text
@@ -31,7 +31,13 @@ pub put_gates-k-requires : goal.put_gates-k-requires
 unfolding counted_text
 put_gates-k-requires c =
     let e = c.counts_of-counts.ensures in
-    (omega (arith, c.requires.0, ap Counts.inputs e, ap Counts.gates e), next_room (wrote_then c.put_sizes-i.ensures c.put_costs-j.ensures) (first_room _ (whole (goal.at.put_gates-k-requires c).After-counts_of-counts)))
+    record {
+      gates_bound = omega (arith, c.requires.words_bound, ap Counts.inputs e, ap Counts.gates e);
+      room =
+          next_room
+          (wrote_then c.put_sizes-i.ensures c.put_costs-j.ensures)
+          (first_room _ (whole (goal.at.put_gates-k-requires c).After-counts_of-counts));
+    }
 
 pub put_outputs-requires : goal.put_outputs-requires
 unfolding counted_text

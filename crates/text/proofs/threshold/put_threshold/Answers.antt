@@ -7,7 +7,7 @@ use Rattle.text.proofs.threshold.put_threshold.Goals as goal
 
 pub returns-in_default : goal.returns-in_default
 returns-in_default c =
-    moved_wrote (refused_text _ _ _ _ c.requires.1 c.emit_threshold-r.ensures.answered c.in_default.is) c.put_bytes.ensures
+    moved_wrote (refused_text _ _ _ _ c.requires.in_bounds_2 c.emit_threshold-r.ensures.answered c.in_default.is) c.put_bytes.ensures
 
 pub slice_bounds-put_emitted-end : goal.slice_bounds-put_emitted-end
 slice_bounds-put_emitted-end c =
@@ -21,4 +21,8 @@ pub put_emitted-requires : goal.put_emitted-requires
 put_emitted-requires c =
     let e = c.emit_threshold-r.ensures in
     let d = c.in-Done.is in
-    (done_netlist _ _ _ _ _ e d, (done_words _ _ _ _ _ e d _ _ c.counts_of-counts.ensures c.word_count-size.ensures, omega arith))
+    record {
+      n_value = done_netlist _ _ _ _ _ e d;
+      net_value = done_words _ _ _ _ _ e d _ _ c.counts_of-counts.ensures c.word_count-size.ensures;
+      in_bounds = omega arith;
+    }
