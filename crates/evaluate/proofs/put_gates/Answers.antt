@@ -47,12 +47,11 @@ pub bounds-values-k : goal.bounds-values-k
 bounds-values-k c = omega (arith, low (goal.at.bounds-values-k c).After-take_apart-t)
 
 pub loop-g-preserved : goal.loop-g-preserved
-loop-g-preserved c =
-    (
-      search rules,
-      gates_turn _ _ _ _ _ c.requires c.loop-g-test.true c.loop-g.invariant.1 (same_gate c.in-Known.is (known (goal.at.loop-g-preserved c).After-take_apart-t)) c.value-v.ensures,
-      search rules,
-    )
+loop-g-preserved c = (
+  search rules,
+  gates_turn _ _ _ _ _ c.requires c.loop-g-test.true c.loop-g.invariant.1 (same_gate c.in-Known.is (known (goal.at.loop-g-preserved c).After-take_apart-t)) c.value-v.ensures,
+  search rules,
+)
 
 pub returns : goal.returns
 returns c =

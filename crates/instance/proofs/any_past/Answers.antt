@@ -1,4 +1,3 @@
-use mathlib.Core.Bool.{false}
 use native.Mathlib.Omega.{arith}
 use Rattle.instance.proofs.Above.{past_more, past_end}
 use Rattle.instance.proofs.any_past.Goals as goal

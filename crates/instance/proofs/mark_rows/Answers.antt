@@ -38,11 +38,10 @@ loop-at-smaller c =
     omega (arith, c.smaller-size.ensures, c.requires.0, c.loop-at-test.true)
 
 pub loop-at-preserved : goal.loop-at-preserved
-loop-at-preserved c =
-    (
-      row_passed _ _ _ _ c.smaller-size.ensures c.loop-at.invariant.0 c.loop-at-test.true _ c.mark_row-r.ensures c.if-r-size.false,
-      c.mark_row-r.auto.seen ∙ c.loop-at.invariant.1,
-    )
+loop-at-preserved c = (
+  row_passed _ _ _ _ c.smaller-size.ensures c.loop-at.invariant.0 c.loop-at-test.true _ c.mark_row-r.ensures c.if-r-size.false,
+  c.mark_row-r.auto.seen ∙ c.loop-at.invariant.1,
+)
 
 pub shape_of-seen : goal.shape_of-seen
 shape_of-seen c = c.loop-at.invariant.1

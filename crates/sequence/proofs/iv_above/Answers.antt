@@ -6,9 +6,9 @@ use Rattle.sequence.proofs.iv_above.Goals as goal
 -- the carry of the low words
 carry : (c : Joined-p1-v1) → (c.if-p1-v1.low ≤ 1) × (ltb c.args.p1 c.args.v1 ≡ ltb 0 c.if-p1-v1.low)
 carry c = elim c.if-p1-v1.branch [
-    then-p1-v1 w ↦ (omega arith, lt-ltb c.args.p1 c.args.v1 w.if-p1-v1.true ∙ sym (lt-ltb 0 c.if-p1-v1.low (omega arith)))
+  | then-p1-v1 w ↦ (omega arith, lt-ltb c.args.p1 c.args.v1 w.if-p1-v1.true ∙ sym (lt-ltb 0 c.if-p1-v1.low (omega arith)))
   | else-p1-v1 w ↦ (omega arith, le-ltb c.args.p1 c.args.v1 w.if-p1-v1.false ∙ sym (le-ltb 0 c.if-p1-v1.low (omega arith)))
-  ]
+]
 
 pub returns-then-p0-sum : goal.returns-then-p0-sum
 returns-then-p0-sum c =

@@ -193,38 +193,45 @@ join_inputs-requires c =
       vals = a.wires.now;
       out = a.scores.now;
     }) c.requires c.emit_decipher.ensures in
-    let bits = ap Sizes.key c.sizes_of-sizes.ensures in
-    (key_lent (let a = c.args in
-    record {
-      inst = a.instance;
-      m = a.m;
-      key = a.key.now;
-      rec = a.«record».now;
-      idx = a.indices.now;
-      wh = a.whitening.now;
-      score = a.scoring.now;
-      enc = a.enciphered.now;
-      net = a.deciphering.now;
-      glued = a.glued.now;
-      inp = a.inputs.now;
-      vals = a.wires.now;
-      out = a.scores.now;
-    }) c.requires, bits, omega (arith, bits, inputs_room (let a = c.args in
-    record {
-      inst = a.instance;
-      m = a.m;
-      key = a.key.now;
-      rec = a.«record».now;
-      idx = a.indices.now;
-      wh = a.whitening.now;
-      score = a.scoring.now;
-      enc = a.enciphered.now;
-      net = a.deciphering.now;
-      glued = a.glued.now;
-      inp = a.inputs.now;
-      vals = a.wires.now;
-      out = a.scores.now;
-    }) c.requires e n))
+    let bits = ap Sizes.key c.sizes_of-sizes.ensures in (
+      key_lent (let a = c.args in
+          record {
+            inst = a.instance;
+            m = a.m;
+            key = a.key.now;
+            rec = a.«record».now;
+            idx = a.indices.now;
+            wh = a.whitening.now;
+            score = a.scoring.now;
+            enc = a.enciphered.now;
+            net = a.deciphering.now;
+            glued = a.glued.now;
+            inp = a.inputs.now;
+            vals = a.wires.now;
+            out = a.scores.now;
+          }) c.requires,
+      bits,
+      omega (
+        arith,
+        bits,
+        inputs_room (let a = c.args in
+            record {
+              inst = a.instance;
+              m = a.m;
+              key = a.key.now;
+              rec = a.«record».now;
+              idx = a.indices.now;
+              wh = a.whitening.now;
+              score = a.scoring.now;
+              enc = a.enciphered.now;
+              net = a.deciphering.now;
+              glued = a.glued.now;
+              inp = a.inputs.now;
+              vals = a.wires.now;
+              out = a.scores.now;
+            }) c.requires e n,
+      ),
+    )
 
 pub overflow_add-sizes : goal.overflow_add-sizes
 overflow_add-sizes c =

@@ -25,8 +25,7 @@ loop-n-smaller c = omega arith
 
 pub loop-n-preserved : goal.loop-n-preserved
 loop-n-preserved c =
-    let put = c.plain_round.ensures in
-    (
+    let put = c.plain_round.ensures in (
       plain_turn _ _ _ _ _ _ c.loop-n-test.true c.late_taps-t.ensures put ∙ c.loop-n.invariant.0,
       omega arith,
       omega arith,

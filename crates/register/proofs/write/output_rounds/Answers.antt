@@ -28,8 +28,7 @@ loop-k-smaller c = omega arith
 
 pub loop-k-preserved : goal.loop-k-preserved
 loop-k-preserved c =
-    let put = c.output_round.ensures in
-    (
+    let put = c.output_round.ensures in (
       output_turn _ _ _ _ _ _ c.loop-k-test.true c.late_taps-t.ensures put ∙ c.loop-k.invariant.0,
       omega arith,
       ap length put ∙ put_length _ _ _ ∙ c.loop-k.invariant.2,

@@ -32,13 +32,12 @@ pub overflow_add-z : goal.overflow_add-z
 overflow_add-z c = omega (arith, room (goal.at.overflow_add-z c).In-loop-i, small c)
 
 pub loop-i-preserved : goal.loop-i-preserved
-loop-i-preserved c =
-    (
-      search rules,
-      turn_small c.loop-i.z _ c.loop-i.i c.loop-i.invariant.1 (small (goal.at.loop-i-preserved c).After-output),
-      c.round-t.ensures ∙ ap round_of c.loop-i.invariant.2 ∙ rounds-more _ _,
-      drawn_more _ _ _ _ (drawn (goal.at.loop-i-preserved c).After-output) c.loop-i.invariant.3,
-    )
+loop-i-preserved c = (
+  search rules,
+  turn_small c.loop-i.z _ c.loop-i.i c.loop-i.invariant.1 (small (goal.at.loop-i-preserved c).After-output),
+  c.round-t.ensures ∙ ap round_of c.loop-i.invariant.2 ∙ rounds-more _ _,
+  drawn_more _ _ _ _ (drawn (goal.at.loop-i-preserved c).After-output) c.loop-i.invariant.3,
+)
 
 pub returns : goal.returns
 returns c =
