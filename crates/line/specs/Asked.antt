@@ -1,5 +1,5 @@
 -- What a whole input asks. docs/RULES.md, "The printing program": one line "d n", decimals of 1 to 3 digits without
--- needless zeros, one space, newline. `asked-line` and `asked-only` say that `asked_of` is this and nothing else.
+-- needless zeros, one space, newline. `asked_line` and `asked_only` say that `asked_of` is this and nothing else.
 use Rattle.std.specs.Prelude.{ℕ, ◌+◌, ◌*◌, ◌-◌, ◌≤◌, Bool, false, ◌≡◌, List, [], ◌∷◌, ◌++◌, length, get_or, ltb, leb, eqb}
 use Rattle.answer.specs.Choose.{choose}
 use Rattle.line.specs.declared.Asked.{Asked}

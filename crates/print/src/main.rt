@@ -3,7 +3,7 @@
 // decided stands in `text::print_text`.
 //
 // The longest line "d n" has 8 bytes, so 64 bytes decide: where the input is longer, they are no line
-// either, and both are refused (`long-refused` of crate text).
+// either, and both are refused (`long_refused` of crate text).
 #![tactic(auto)]
 
 use answer::Answer;

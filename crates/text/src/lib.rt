@@ -22,7 +22,7 @@ pub struct Printing {
 }
 
 // The text for an input, from byte 0 on, and its length. Netlists of up to 64 inputs have at most 4,289
-// gates, so 17,160 words with header and output (`words-most`).
+// gates, so 17,160 words with header and output (`words_most`).
 fn write(input: &[u8], text: &mut [u8]) -> usize
     requires { 131072 ≤ length text.old }
     ensures { WroteText (printed input.now) text.old 0 text.new result }
