@@ -30,11 +30,11 @@ use Rattle.claims.proofs.Scoring.{emitted_gives}
 
 -- ---- what Kreyvium's calls are lent
 
-bits_of : (n : ℕ) (s : List ℕ) → BitList n s → Bits n s
-bits_of n s b = record { size = b.size; bit = λ k h. b.bit k }
+bits_of_lem : (n : ℕ) (s : List ℕ) → BitList n s → Bits n s
+bits_of_lem n s b = record { size = b.size; bit = λ k h. b.bit k }
 
 wired : (iv : List ℕ) → BitList 128 iv → Wired 6 64 [] iv
-wired iv v = kreyvium_wired 64 iv (omega arith) (omega arith) (bits_of 128 iv v)
+wired iv v = kreyvium_wired 64 iv (omega arith) (omega arith) (bits_of_lem 128 iv v)
 
 -- ---- a frame and `encipher`
 
@@ -52,7 +52,7 @@ pub frame_enciphers : (key rec iv s out enc : List ℕ) {q r : Answer} {out' enc
 frame_enciphers key rec iv s out enc l h a c =
     let e = encipher_of 6 64 (key_in 6 key) rec [] iv in
     let f = appended key rec iv s out l a in
-    let g = encipher_gives 6 64 [] iv (wired iv l.iv_bits) key l.keyed rec enc (bits_of 64 rec l.record_bits) h c in
+    let g = encipher_gives 6 64 [] iv (wired iv l.iv_bits) key l.keyed rec enc (bits_of_lem 64 rec l.record_bits) h c in
     (f.0, g.0, f.1 ∙ sym (front_of e enc 64 (sealed-bits (key_in 6 key) rec iv l.record_bits.size).size g.1))
 
 -- ---- a frame and the netlist of its IV
@@ -60,7 +60,7 @@ frame_enciphers key rec iv s out enc l h a c =
 netlist_deciphers : (key bits iv : List ℕ) → Keyed 6 key → BitList 64 bits → BitList 128 iv
     → eval (decipher_net 6 64 [] iv) (key_in 6 key ++ bits) ≡ encipher_of 6 64 (key_in 6 key) bits [] iv
 netlist_deciphers key bits iv k b v =
-    emitted_evaluates 6 64 [] iv (wired iv v) (key_in 6 key) bits (inputs_of_lem 6 64 key bits k (bits_of 64 bits b))
+    emitted_evaluates 6 64 [] iv (wired iv v) (key_in 6 key) bits (inputs_of_lem 6 64 key bits k (bits_of_lem 64 bits b))
 
 -- Of the definitions: evaluated on the key and the 64 bits of frame k, the netlist gives the frame's record.
 module _ (key s : List ℕ) (k : ℕ) (b : Keyed 6 key) where
@@ -91,7 +91,7 @@ module _ (key s : List ℕ) (k : ℕ) (b : Keyed 6 key) where
       → (r ≡ Done) × (t ≡ Done) × (take 64 outs' ≡ record_in (key_in 6 key) s k)
   unfolding record_in
   frame_netlist out vals outs h hv ho m v =
-      emitted_gives 6 64 [] iv (wired iv iv-bits) key sealed b (bits_of 64 sealed sealed_list) out vals outs h hv ho m v
+      emitted_gives 6 64 [] iv (wired iv iv-bits) key sealed b (bits_of_lem 64 sealed sealed_list) out vals outs h hv ho m v
 
 -- So the frame that `append` left is deciphered by the netlist of its IV: on the key and the frame's 64 bits it gives the
 -- record.
