@@ -16,6 +16,7 @@ use Rattle.answer.specs.Choose.{choose}
 use Rattle.answer.specs.Fronts.{over}
 use Rattle.answer.proofs.Rows.{refuse_not, refuse_yes, stop, pass}
 use Rattle.answer.proofs.Over.{over_none, over-sets, take-over, kept, made}
+use Rattle.netlist.specs.declared.counts.Counts.{Counts}
 use Rattle.netlist.specs.declared.gate.Gate.{Gate}
 use Rattle.netlist.specs.declared.gate.Gate.TheVariants.{Zero, One}
 use Rattle.netlist.specs.Gates.{gate_words}
@@ -155,6 +156,10 @@ shape_good d n e =
     let a = choose_false (ltb 64 n) _ e in
     let b = choose_false (eqb d 0) _ a.1 in
     (ltb-false 64 n a.0, omega (arith, eqb-false d 0 b.0), ltb-false (n + 1) d b.1)
+
+-- the need that was counted is that of the netlist
+pub need_is : {need : ℕ} {a b : Counts} → need ≡ word_count a → a ≡ b → need ≡ word_count b
+need_is e f = e ∙ ap word_count f
 
 -- What a call answers and leaves, where `shape` says that 13 is due.
 module _ (shape : Bool) (net : Net) (out : List ℕ) where

@@ -8,35 +8,12 @@ use Rattle.answer.specs.Judges.{length_answer, room_answer, first_answer}
 use Rattle.answer.proofs.Judges.{first_stop, first_go}
 use Rattle.choice.specs.Choice.{past_draw, choose_answer}
 use Rattle.choice.proofs.Accepted.{by_sizes, few}
-use Rattle.choice.proofs.judge.Goals.{After-sizes_of-sizes, In-Done, In-Done-s}
+use Rattle.choice.proofs.judge.Goals.{After-sizes_of-sizes}
 use Rattle.choice.proofs.judge.Goals as goal
 
 numbered : (c : After-sizes_of-sizes) {r : Answer}
     → r ≡ length_answer 1 (length c.args.draws.now) c.sizes_of-sizes.result.row ▹ room_answer 2 c.args.room c.sizes_of-sizes.result.row ▹ (first_answer 14 1 (past_draw c.sizes_of-sizes.result.key c.args.draws.now) c.args.draws.now) → r ≡ (choose_answer c.args.instance c.args.draws.now c.args.room)
 numbered c h = by_sizes _ _ _ _ c.sizes_of-sizes.ensures c.if-instance-lt1.false c.if-instance-gt5.false h
-
-numbered-at-In-Done : (c : In-Done) {r : Answer}
-    → r ≡ length_answer 1 (length c.args.draws.now) c.sizes_of-sizes.result.row ▹ room_answer 2 c.args.room c.sizes_of-sizes.result.row ▹ (first_answer 14 1 (past_draw c.sizes_of-sizes.result.key c.args.draws.now) c.args.draws.now) → r ≡ (choose_answer c.args.instance c.args.draws.now c.args.room)
-numbered-at-In-Done c h = by_sizes _ _ _ _ c.sizes_of-sizes.ensures c.if-instance-lt1.false c.if-instance-gt5.false h
-
-counted : (c : In-Done) {r : Answer}
-    → r ≡ room_answer 2 c.args.room c.sizes_of-sizes.result.row ▹ (first_answer 14 1 (past_draw c.sizes_of-sizes.result.key c.args.draws.now) c.args.draws.now) → r ≡ (choose_answer c.args.instance c.args.draws.now c.args.room)
-counted c h =
-    numbered-at-In-Done c (go c.exact-r.ensures c.in-Done.is h)
-
-numbered-at-In-Done-s : (c : In-Done-s) {r : Answer}
-    → r ≡ length_answer 1 (length c.args.draws.now) c.sizes_of-sizes.result.row ▹ room_answer 2 c.args.room c.sizes_of-sizes.result.row ▹ (first_answer 14 1 (past_draw c.sizes_of-sizes.result.key c.args.draws.now) c.args.draws.now) → r ≡ (choose_answer c.args.instance c.args.draws.now c.args.room)
-numbered-at-In-Done-s c h = by_sizes _ _ _ _ c.sizes_of-sizes.ensures c.if-instance-lt1.false c.if-instance-gt5.false h
-
-counted-at-In-Done-s : (c : In-Done-s) {r : Answer}
-    → r ≡ room_answer 2 c.args.room c.sizes_of-sizes.result.row ▹ (first_answer 14 1 (past_draw c.sizes_of-sizes.result.key c.args.draws.now) c.args.draws.now) → r ≡ (choose_answer c.args.instance c.args.draws.now c.args.room)
-counted-at-In-Done-s c h =
-    numbered-at-In-Done-s c (go c.exact-r.ensures c.in-Done.is h)
-
-roomed : (c : In-Done-s) {r : Answer}
-    → r ≡ (first_answer 14 1 (past_draw c.sizes_of-sizes.result.key c.args.draws.now) c.args.draws.now) → r ≡ (choose_answer c.args.instance c.args.draws.now c.args.room)
-roomed c h =
-    counted-at-In-Done-s c (go c.room-s.ensures c.in-Done-s.is h)
 
 pub returns-then-instance-lt1 : goal.returns-then-instance-lt1
 unfolding choose_answer
@@ -52,7 +29,8 @@ pub returns-in_default : goal.returns-in_default
 returns-in_default c = numbered (goal.at.returns-in_default c).After-sizes_of-sizes (stop _ c.exact-r.ensures c.in_default.is)
 
 pub returns-in_default-s : goal.returns-in_default-s
-returns-in_default-s c = counted (goal.at.returns-in_default-s c).In-Done (stop _ c.room-s.ensures c.in_default-s.is)
+returns-in_default-s c =
+    numbered (goal.at.returns-in_default-s c).After-sizes_of-sizes (go c.exact-r.ensures c.in-Done.is (stop _ c.room-s.ensures c.in_default-s.is))
 
 pub first_past-place-requires : goal.first_past-place-requires
 first_past-place-requires c =
@@ -60,7 +38,11 @@ first_past-place-requires c =
 
 pub returns-then-place-len : goal.returns-then-place-len
 returns-then-place-len c =
-    c.refused.ensures ∙ roomed (goal.at.returns-then-place-len c).In-Done-s (first_stop 14 1 _ _ _ c.first_past-place.ensures c.if-place-len.true)
+    c.refused.ensures
+    ∙ numbered (goal.at.returns-then-place-len c).After-sizes_of-sizes
+    (go c.exact-r.ensures c.in-Done.is (go c.room-s.ensures c.in-Done-s.is (first_stop 14 1 _ _ _ c.first_past-place.ensures c.if-place-len.true)))
 
 pub returns : goal.returns
-returns c = roomed (goal.at.returns c).In-Done-s (sym (first_go 14 1 _ _ _ c.first_past-place.ensures c.if-place-len.false))
+returns c =
+    numbered (goal.at.returns c).After-sizes_of-sizes
+    (go c.exact-r.ensures c.in-Done.is (go c.room-s.ensures c.in-Done-s.is (sym (first_go 14 1 _ _ _ c.first_past-place.ensures c.if-place-len.false))))

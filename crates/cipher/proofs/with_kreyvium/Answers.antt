@@ -40,37 +40,16 @@ read c =
 part : (c : In-Done) → let a = c.args in length (take a.m a.res.now) ≡ a.m
 part c = let a = c.args in length-take-le a.m a.res.now (wired c).3
 
--- it is accepted
-accepted-at-After-stream64 : (c : After-stream64)
-    → let a = c.args in encipher_answer 6 a.m a.key.now a.«record».now a.indices.now a.iv.now (length a.res.now) ≡ Done
-accepted-at-After-stream64 c = sym c.kreyvium-r.ensures ∙ c.in-Done.is
-
-wired-at-After-stream64 : (c : After-stream64)
-    → let a = c.args in Wired 6 a.m a.indices.now a.iv.now × Keyed 6 a.key.now × Bits a.m a.«record».now × (a.m ≤ length a.res.now)
-wired-at-After-stream64 c =
-    let a = c.args in
-    encipher_wired 6 a.m a.key.now a.«record».now a.indices.now a.iv.now _ (accepted-at-After-stream64 c)
-
--- so the IV can be packed
-read-at-After-stream64 : (c : After-stream64)
-    → let a = c.args in (a.m ≤ 64) × (length a.iv.now ≡ 128) × ((i : ℕ) → get_or a.iv.now i 0 ≤ 1)
-read-at-After-stream64 c =
-    let a = c.args in
-    iv-lent 6 a.m a.indices.now a.iv.now (wired-at-After-stream64 c).0 refl
-
--- the part of the result that is lent on is as long as the record
-part-at-After-stream64 : (c : After-stream64) → let a = c.args in length (take a.m a.res.now) ≡ a.m
-part-at-After-stream64 c = let a = c.args in length-take-le a.m a.res.now (wired-at-After-stream64 c).3
-
 -- the block's first bits are the keystream
 streamed : (c : After-stream64)
     → let a = c.args in
-    tops (length (take a.m a.res.now)) c.stream64.result ≡ keystream_of 6 (length (take a.m a.res.now)) (key_in 6 a.key.now) a.indices.now a.iv.now
-streamed c =
+    Wired 6 a.m a.indices.now a.iv.now × Keyed 6 a.key.now × Bits a.m a.«record».now × (a.m ≤ length a.res.now)
+    → tops (length (take a.m a.res.now)) c.stream64.result ≡ keystream_of 6 (length (take a.m a.res.now)) (key_in 6 a.key.now) a.indices.now a.iv.now
+streamed c w =
     let a = c.args in
-    let r = read-at-After-stream64 c in
-    c.stream64.ensures _ (rw (part-at-After-stream64 c) r.0)
-    ∙ stream-words a.key.now a.iv.now (wired-at-After-stream64 c).1 r.1 r.2 _ _ _ _ _ c.key_word-k0.ensures c.key_word-k1.ensures c.word-v0.ensures c.word-v1.ensures
+    let r = iv-lent 6 a.m a.indices.now a.iv.now w.0 refl in
+    c.stream64.ensures _ (rw (length-take-le a.m a.res.now w.3) r.0)
+    ∙ stream-words a.key.now a.iv.now w.1 r.1 r.2 _ _ _ _ _ c.key_word-k0.ensures c.key_word-k1.ensures c.word-v0.ensures c.word-v1.ensures
     ∙ stream_of_lem 6 _ (key_in 6 a.key.now) a.indices.now a.iv.now refl
 
 pub returns-in_default : goal.returns-in_default
@@ -104,15 +83,17 @@ put_front-requires c = rw (part (goal.at.put_front-requires c).In-Done) (read (g
 pub add-requires : goal.add-requires
 add-requires c =
     let a = c.args in
-    front_room 6 a.m (key_in 6 a.key.now) a.indices.now a.iv.now a.res.now _ (wired (goal.at.add-requires c).In-Done).3 (c.put_front.ensures ∙ streamed (goal.at.add-requires c).After-stream64) a.«record».now (wired (goal.at.add-requires c).In-Done).2.size
+    let w = wired (goal.at.add-requires c).In-Done in
+    front_room 6 a.m (key_in 6 a.key.now) a.indices.now a.iv.now a.res.now _ w.3 (c.put_front.ensures ∙ streamed (goal.at.add-requires c).After-stream64 w) a.«record».now w.2.size
 
 pub returns : goal.returns
 returns c =
     let a = c.args in
+    let w = wired (goal.at.returns c).In-Done in
     record {
       answered = sym (accepted (goal.at.returns c).In-Done);
       written =
           c.add.ensures
-          ∙ encipher_written 6 a.m (key_in 6 a.key.now) a.indices.now a.iv.now a.res.now _ (wired (goal.at.returns c).In-Done).3 (c.put_front.ensures ∙ streamed (goal.at.returns c).After-stream64) a.«record».now (wired (goal.at.returns c).In-Done).2.size
+          ∙ encipher_written 6 a.m (key_in 6 a.key.now) a.indices.now a.iv.now a.res.now _ w.3 (c.put_front.ensures ∙ streamed (goal.at.returns c).After-stream64 w) a.«record».now w.2.size
           ∙ made _ _ refl;
     }

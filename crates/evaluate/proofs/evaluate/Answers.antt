@@ -4,7 +4,7 @@ use lib.ListN.{length}
 use Rattle.answer.specs.Fronts.{over}
 use Rattle.answer.proofs.Over.{kept, made}
 use Rattle.netlist.specs.Net.{values}
-use Rattle.netlist.specs.Words.{counts_of, net_of}
+use Rattle.netlist.specs.Words.{net_of}
 use Rattle.evaluate.specs.Ready.{Ready}
 use Rattle.evaluate.proofs.Walks.{gates_fit, outputs_fit, all-values, all_outputs}
 use Rattle.evaluate.proofs.Accepted.{done_ready}
@@ -14,19 +14,9 @@ use Rattle.evaluate.proofs.evaluate.Goals as goal
 ready : (c : After-counts_of-c) → Ready c.args.net.now c.args.inputs.now (length c.args.values.now) (length c.args.outputs.now)
 ready c = done_ready _ _ _ _ (sym c.judge-r.ensures ∙ c.in-Done.is)
 
-counted : (c : After-counts_of-c) → c.counts_of-c.result ≡ counts_of c.args.net.now
-counted c = c.counts_of-c.ensures
-
-ready-at-After-put_gates : (c : After-put_gates) → Ready c.args.net.now c.args.inputs.now (length c.args.values.now) (length c.args.outputs.now)
-ready-at-After-put_gates c = done_ready _ _ _ _ (sym c.judge-r.ensures ∙ c.in-Done.is)
-
-counted-at-After-put_gates : (c : After-put_gates) → c.counts_of-c.result ≡ counts_of c.args.net.now
-counted-at-After-put_gates c = c.counts_of-c.ensures
-
-filled : (c : After-put_gates) →
+filled : (c : After-put_gates) → Ready c.args.net.now c.args.inputs.now (length c.args.values.now) (length c.args.outputs.now) →
     c.put_gates.new.values ≡ over (values (net_of c.args.net.now) c.args.inputs.now) c.args.values.now
-filled c =
-    all-values _ _ _ _ (ready-at-After-put_gates c) _ c.put_inputs.ensures (rw (counted-at-After-put_gates c) at c.put_gates.ensures)
+filled c r = all-values _ _ _ _ r _ c.put_inputs.ensures (rw c.counts_of-c.ensures at c.put_gates.ensures)
 
 pub returns-in_default : goal.returns-in_default
 returns-in_default c =
@@ -42,17 +32,18 @@ put_inputs-requires c =
 
 pub put_gates-requires : goal.put_gates-requires
 put_gates-requires c =
-    rw (counted (goal.at.put_gates-requires c).After-counts_of-c) (gates_fit _ _ _ _ (ready (goal.at.put_gates-requires c).After-counts_of-c) _ refl c.put_inputs.ensures)
+    rw c.counts_of-c.ensures (gates_fit _ _ _ _ (ready (goal.at.put_gates-requires c).After-counts_of-c) _ refl c.put_inputs.ensures)
 
 pub put_outputs-requires : goal.put_outputs-requires
 put_outputs-requires c =
-    rw (counted (goal.at.put_outputs-requires c).After-counts_of-c) (outputs_fit _ _ _ _ (ready (goal.at.put_outputs-requires c).After-counts_of-c) _ _ (omega arith) (omega arith))
+    rw c.counts_of-c.ensures (outputs_fit _ _ _ _ (ready (goal.at.put_outputs-requires c).After-counts_of-c) _ _ (omega arith) (omega arith))
 
 pub returns : goal.returns
 returns c =
-    let v = filled (goal.at.returns c).After-put_gates in
+    let r = ready (goal.at.returns c).After-counts_of-c in
+    let v = filled (goal.at.returns c).After-put_gates r in
     record {
       answered = sym c.in-Done.is ∙ c.judge-r.ensures;
       filled = v ∙ made _ _ refl;
-      given = all_outputs _ _ _ _ (ready (goal.at.returns c).After-counts_of-c) _ _ v (rw (counted (goal.at.returns c).After-counts_of-c) at c.put_outputs.ensures) ∙ made _ _ refl;
+      given = all_outputs _ _ _ _ r _ _ v (rw c.counts_of-c.ensures at c.put_outputs.ensures) ∙ made _ _ refl;
     }

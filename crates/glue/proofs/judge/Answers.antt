@@ -1,7 +1,7 @@
 use mathlib.Core.Path.{◌≡◌, sym, ap, ap₂, ◌∙◌}
 use Rattle.answer.specs.Judges.{room_answer}
 use Rattle.answer.proofs.Rows.{stop, go}
-use Rattle.netlist.specs.Words.{counts_of, word_count}
+use Rattle.netlist.specs.Words.{word_count}
 use Rattle.netlist.specs.Sound.{Sound}
 use Rattle.netlist.proofs.Accepted.{done_sound}
 use Rattle.glue.specs.Glue.{glued_counts, glued_size, fit_answer, glue_answer}
@@ -17,25 +17,12 @@ seconds : (c : After-counts_of-b) → Sound c.args.second.now
 seconds c =
     done_sound 2 _ (sym c.check_as-s.ensures ∙ c.in-Done-s.is)
 
--- their counts, and what was answered of the room
-firstCounts : (c : After-counts_of-b) → c.counts_of-a.result ≡ counts_of c.args.first.now
-firstCounts c = c.counts_of-a.ensures
-
-secondCounts : (c : After-counts_of-b) → c.counts_of-b.result ≡ counts_of c.args.second.now
-secondCounts c = c.counts_of-b.ensures
-
--- their counts, and what was answered of the room
-firstCounts-at-After-room-space : (c : After-room-space) → c.counts_of-a.result ≡ counts_of c.args.first.now
-firstCounts-at-After-room-space c = c.counts_of-a.ensures
-
-secondCounts-at-After-room-space : (c : After-room-space) → c.counts_of-b.result ≡ counts_of c.args.second.now
-secondCounts-at-After-room-space c = c.counts_of-b.ensures
-
+-- what was answered of the room
 roomed : (c : After-room-space) →
     let s = c.args in
     c.room-space.result ≡ room_answer 3 s.room (glued_size s.first.now s.second.now)
 roomed c =
-    let whole = c.glued.ensures ∙ ap₂ glued_counts (firstCounts-at-After-room-space c) (secondCounts-at-After-room-space c) in
+    let whole = c.glued.ensures ∙ ap₂ glued_counts c.counts_of-a.ensures c.counts_of-b.ensures in
     c.room-space.ensures ∙ ap (room_answer 3 _) (c.word_count.ensures ∙ ap word_count whole)
 
 pub returns-in_default : goal.returns-in_default
@@ -48,7 +35,7 @@ returns-in_default-s c =
     go c.check_as-r.ensures c.in-Done.is (stop _ c.check_as-s.ensures c.in_default-s.is)
 
 pub glued-requires : goal.glued-requires
-glued-requires c = (rw (firstCounts c) (firsts c).limits, rw (secondCounts c) (seconds c).limits)
+glued-requires c = (rw c.counts_of-a.ensures (firsts c).limits, rw c.counts_of-b.ensures (seconds c).limits)
 
 pub returns-in_default-space : goal.returns-in_default-space
 unfolding glue_answer
@@ -58,11 +45,11 @@ returns-in_default-space c =
 
 pub fitting-requires : goal.fitting-requires
 fitting-requires c =
-    (rw (firstCounts (goal.at.fitting-requires c).After-counts_of-b) (firsts (goal.at.fitting-requires c).After-counts_of-b).limits, rw (secondCounts (goal.at.fitting-requires c).After-counts_of-b) (seconds (goal.at.fitting-requires c).After-counts_of-b).limits)
+    (rw c.counts_of-a.ensures (firsts (goal.at.fitting-requires c).After-counts_of-b).limits, rw c.counts_of-b.ensures (seconds (goal.at.fitting-requires c).After-counts_of-b).limits)
 
 pub returns : goal.returns
 unfolding glue_answer
 returns c =
     go c.check_as-r.ensures c.in-Done.is
     (go c.check_as-s.ensures c.in-Done-s.is
-    (go (roomed (goal.at.returns c).After-room-space) c.in-Done-space.is (c.fitting.ensures ∙ ap₂ fit_answer (firstCounts (goal.at.returns c).After-counts_of-b) (secondCounts (goal.at.returns c).After-counts_of-b))))
+    (go (roomed (goal.at.returns c).After-room-space) c.in-Done-space.is (c.fitting.ensures ∙ ap₂ fit_answer c.counts_of-a.ensures c.counts_of-b.ensures)))

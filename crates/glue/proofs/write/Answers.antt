@@ -5,35 +5,17 @@ use lib.ListN.{length}
 use borrow.Rule.Slice.PartMut.{put_mid}
 use Rattle.answer.specs.Fronts.{over}
 use Rattle.answer.proofs.Over.{length_over, tail_room}
-use Rattle.netlist.specs.Words.{header_words, gate_place, counts_of, inputs_of, gates_of}
+use Rattle.netlist.specs.Words.{header_words, gate_place, inputs_of, gates_of}
 use Rattle.glue.specs.Glue.{glued_counts}
 use Rattle.glue.proofs.Parts.{first_words, first_words-length, first-written, all-written}
-use Rattle.glue.proofs.write.Goals.{After-copy, After-counts_of-counts, After-put_header}
+use Rattle.glue.proofs.write.Goals.{After-copy, After-put_header}
 use Rattle.glue.proofs.write.Goals as goal
 
--- the first netlist's counts, and the glued one's
-first : (c : After-counts_of-counts) → c.counts_of-counts.result ≡ counts_of c.args.first.now
-first c = c.counts_of-counts.ensures
-
--- the first netlist's counts, and the glued one's
-first-at-After-put_header : (c : After-put_header) → c.counts_of-counts.result ≡ counts_of c.args.first.now
-first-at-After-put_header c = c.counts_of-counts.ensures
-
 gates : (c : After-put_header) → c.counts_of-counts.result.gates ≡ gates_of c.args.first.now
-gates c = ap (λ n. n.gates) (first-at-After-put_header c)
+gates c = ap (λ n. n.gates) c.counts_of-counts.ensures
 
 inputs : (c : After-put_header) → c.counts_of-counts.result.inputs ≡ inputs_of c.args.first.now
-inputs c = ap (λ n. n.inputs) (first-at-After-put_header c)
-
-whole : (c : After-put_header) → c.glued.result ≡ glued_counts (counts_of c.args.first.now) (counts_of c.args.second.now)
-whole c = c.glued.ensures ∙ ap₂ glued_counts (first-at-After-put_header c) c.counts_of.ensures
-
--- the first netlist's counts, and the glued one's
-first-at-After-copy : (c : After-copy) → c.counts_of-counts.result ≡ counts_of c.args.first.now
-first-at-After-copy c = c.counts_of-counts.ensures
-
-whole-at-After-copy : (c : After-copy) → c.glued.result ≡ glued_counts (counts_of c.args.first.now) (counts_of c.args.second.now)
-whole-at-After-copy c = c.glued.ensures ∙ ap₂ glued_counts (first-at-After-copy c) c.counts_of.ensures
+inputs c = ap (λ n. n.inputs) c.counts_of-counts.ensures
 
 -- what stands once the first netlist's gates are copied
 first_is : (c : After-copy) →
@@ -41,11 +23,11 @@ first_is : (c : After-copy) →
     let head = c.put_header.new.out in
     put_mid header_words (length head - header_words) head c.copy.new.out ≡ over (first_words a.first.now a.second.now) a.out.now
 first_is c =
-    first-written c.args.first.now c.args.second.now c.args.out.now _ (first-at-After-copy c) (omega (arith, c.requires.space)) (whole-at-After-copy c) c.put_header.ensures c.copy.ensures
+    first-written c.args.first.now c.args.second.now c.args.out.now _ c.counts_of-counts.ensures (omega (arith, c.requires.space)) (c.glued.ensures ∙ ap₂ glued_counts c.counts_of-counts.ensures c.counts_of.ensures) c.put_header.ensures c.copy.ensures
 
 pub glued-requires : goal.glued-requires
 glued-requires c =
-    (rw (first (goal.at.glued-requires c).After-counts_of-counts) c.requires.first.limits, rw c.counts_of.ensures c.requires.second.limits)
+    (rw c.counts_of-counts.ensures c.requires.first.limits, rw c.counts_of.ensures c.requires.second.limits)
 
 pub slice_bounds-copy-end : goal.slice_bounds-copy-end
 slice_bounds-copy-end c =
@@ -91,4 +73,4 @@ put_second-requires c =
 
 pub returns : goal.returns
 returns c =
-    all-written c.args.first.now c.args.second.now c.args.out.now _ (first (goal.at.returns c).After-counts_of-counts) c.requires (first_is (goal.at.returns c).After-copy) c.put_second.ensures
+    all-written c.args.first.now c.args.second.now c.args.out.now _ c.counts_of-counts.ensures c.requires (first_is (goal.at.returns c).After-copy) c.put_second.ensures

@@ -11,9 +11,9 @@ use Rattle.instance.proofs.wiring_lengths.Goals.{After-exact-r}
 use Rattle.instance.proofs.wiring_lengths.Goals as goal
 
 -- the indices are judged by the table's row
-indices-are : (c : After-exact-r) →
+indices_are : (c : After-exact-r) →
     let a = c.args in c.exact-r.result ≡ length_answer a.list a.indices (a.m * row_bits a.instance)
-indices-are c =
+indices_are c =
     let a = c.args in
     c.exact-r.ensures ∙ ap (λ (n : ℕ). length_answer a.list a.indices (a.m * n)) c.row_bits-row.ensures.0
 
@@ -22,11 +22,11 @@ overflow_mul-m c = record { fits = below 32 (search rules) (omega (arith, c.row_
 
 pub returns-in_default : goal.returns-in_default
 unfolding wiring_lengths
-returns-in_default c = stop _ (indices-are (goal.at.returns-in_default c).After-exact-r) c.in_default.is
+returns-in_default c = stop _ (indices_are (goal.at.returns-in_default c).After-exact-r) c.in_default.is
 
 pub returns : goal.returns
 unfolding wiring_lengths
 returns c =
     let a = c.args in
-    go (indices-are (goal.at.returns c).After-exact-r) c.in-Done.is
+    go (indices_are (goal.at.returns c).After-exact-r) c.in-Done.is
     (c.exact.ensures ∙ ap (length_answer (a.list + 1) a.whitening) c.whitening_bits.ensures)

@@ -1,29 +1,23 @@
 use Prim.Native.Nat.{◌≤◌}
-use mathlib.Core.Path.{◌≡◌, ap, ◌∙◌}
+use mathlib.Core.Path.{ap, ◌∙◌}
 use native.Mathlib.Omega.{arith}
 use lib.ListN.{length}
 use lib.Seq.{sets}
 use Rattle.netlist.specs.declared.counts.Counts.{Counts}
-use Rattle.netlist.specs.Words.{gate_place, word_count, net_counts, words}
+use Rattle.netlist.specs.Words.{gate_place, words}
 use Rattle.netlist.proofs.Puts.{words-length, net_put}
 use Rattle.cells.specs.Cells.{threshold_net}
 use Rattle.cells.proofs.Facts.{threshold_outputs}
 use Rattle.emit.specs.Emit.{no_threshold, threshold_answer}
-use Rattle.emit.proofs.Shapes.{threshold_outs, threshold-some, shape_good, no_room, in_room, all-written}
-use Rattle.emit.proofs.nets.threshold.Goals.{After-room-r, In-Done}
+use Rattle.emit.proofs.Shapes.{threshold_outs, threshold-some, shape_good, no_room, in_room, need_is, all-written}
+use Rattle.emit.proofs.nets.threshold.Goals.{In-Done}
 use Rattle.emit.proofs.nets.threshold.Goals as goal
-
-need-is : (c : After-room-r) → let a = c.args in c.word_count.result ≡ word_count (net_counts (threshold_net a.d a.n))
-need-is c = c.word_count.ensures ∙ ap word_count c.threshold_counts-counts.ensures.0
-
-need-is-at-In-Done : (c : In-Done) → let a = c.args in c.word_count.result ≡ word_count (net_counts (threshold_net a.d a.n))
-need-is-at-In-Done c = c.word_count.ensures ∙ ap word_count c.threshold_counts-counts.ensures.0
 
 -- there is room for the words
 room : (c : In-Done) → let a = c.args in length (words (threshold_net a.d a.n)) ≤ length a.out.now
 room c =
     let a = c.args in
-    in_room (no_threshold a.d a.n) (threshold_net a.d a.n) a.out.now c.requires.0 _ _ (need-is-at-In-Done c) c.room-r.ensures c.in-Done.is
+    in_room (no_threshold a.d a.n) (threshold_net a.d a.n) a.out.now c.requires.0 _ _ (need_is c.word_count.ensures c.threshold_counts-counts.ensures.0) c.room-r.ensures c.in-Done.is
 
 pub threshold_counts-counts-requires : goal.threshold_counts-counts-requires
 threshold_counts-counts-requires c = shape_good c.args.d c.args.n c.requires.0
@@ -32,7 +26,7 @@ pub returns-in_default : goal.returns-in_default
 unfolding threshold_answer
 returns-in_default c =
     let a = c.args in
-    no_room (no_threshold a.d a.n) (threshold_net a.d a.n) a.out.now c.requires.0 _ _ (need-is (goal.at.returns-in_default c).After-room-r) c.room-r.ensures c.in_default.is
+    no_room (no_threshold a.d a.n) (threshold_net a.d a.n) a.out.now c.requires.0 _ _ (need_is c.word_count.ensures c.threshold_counts-counts.ensures.0) c.room-r.ensures c.in_default.is
 
 pub put_threshold_gates-requires : goal.put_threshold_gates-requires
 put_threshold_gates-requires c =
@@ -63,6 +57,6 @@ returns c =
     let a = c.args in
     let g = shape_good a.d a.n c.requires.0 in
     let e = c.threshold_counts-counts.ensures.0 in
-    all-written (no_threshold a.d a.n) (threshold_net a.d a.n) a.out.now c.requires.0 _ _ (need-is (goal.at.returns c).After-room-r) c.room-r.ensures _ c.in-Done.is
+    all-written (no_threshold a.d a.n) (threshold_net a.d a.n) a.out.now c.requires.0 _ _ (need_is c.word_count.ensures c.threshold_counts-counts.ensures.0) c.room-r.ensures _ c.in-Done.is
     (net_put (threshold_net a.d a.n) a.out.now _ _ _ _ _ e (ap (λ (c : Counts). gate_place c.gates) e) (room (goal.at.returns c).In-Done) c.put_header.ensures c.put_threshold_gates.ensures
     (c.put_wires.ensures ∙ ap (sets _ _) (threshold_outs a.d a.n _ g.1 g.2 (ap Counts.gates e))))

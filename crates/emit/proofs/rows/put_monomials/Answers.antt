@@ -6,8 +6,8 @@ use Rattle.emit.proofs.RowsSum.{Fitting, fitting, as_long, summing_first, summin
 use Rattle.emit.proofs.rows.put_monomials.Goals.{In-loop-j}
 use Rattle.emit.proofs.rows.put_monomials.Goals as goal
 
-fitting-at : (l : In-loop-j) → let a = l.args in Fitting a.degrees.now a.xs.now l.loop-j.used l.loop-j.j
-fitting-at l = fitting _ _ _ _ _ _ _ _ _ _ _ l.loop-j.invariant l.loop-j-test.true
+fitting_at : (l : In-loop-j) → let a = l.args in Fitting a.degrees.now a.xs.now l.loop-j.used l.loop-j.j
+fitting_at l = fitting _ _ _ _ _ _ _ _ _ _ _ l.loop-j.invariant l.loop-j-test.true
 
 pub bounds-degrees-0 : goal.bounds-degrees-0
 bounds-degrees-0 c = omega arith
@@ -34,41 +34,41 @@ pub bounds-degrees-j : goal.bounds-degrees-j
 bounds-degrees-j c = omega arith
 
 pub overflow_add-end : goal.overflow_add-end
-overflow_add-end c = let f = fitting-at (goal.at.overflow_add-end c).In-loop-j in omega arith
+overflow_add-end c = let f = fitting_at (goal.at.overflow_add-end c).In-loop-j in omega arith
 
 pub overflow_sub-i : goal.overflow_sub-i
-overflow_sub-i c = let f = fitting-at (goal.at.overflow_sub-i c).In-loop-j in omega arith
+overflow_sub-i c = let f = fitting_at (goal.at.overflow_sub-i c).In-loop-j in omega arith
 
 pub overflow_mul-i : goal.overflow_mul-i
-overflow_mul-i c = let f = fitting-at (goal.at.overflow_mul-i c).In-loop-j in omega arith
+overflow_mul-i c = let f = fitting_at (goal.at.overflow_mul-i c).In-loop-j in omega arith
 
 pub overflow_add-i : goal.overflow_add-i
-overflow_add-i c = let f = fitting-at (goal.at.overflow_add-i c).In-loop-j in omega arith
+overflow_add-i c = let f = fitting_at (goal.at.overflow_add-i c).In-loop-j in omega arith
 
 pub overflow_sub-wire : goal.overflow_sub-wire
-overflow_sub-wire c = let f = fitting-at (goal.at.overflow_sub-wire c).In-loop-j in omega arith
+overflow_sub-wire c = let f = fitting_at (goal.at.overflow_sub-wire c).In-loop-j in omega arith
 
 pub overflow_cast-wire : goal.overflow_cast-wire
-overflow_cast-wire c = let f = fitting-at (goal.at.overflow_cast-wire c).In-loop-j in omega arith
+overflow_cast-wire c = let f = fitting_at (goal.at.overflow_cast-wire c).In-loop-j in omega arith
 
 pub overflow_add-wire : goal.overflow_add-wire
-overflow_add-wire c = let f = fitting-at (goal.at.overflow_add-wire c).In-loop-j in omega arith
+overflow_add-wire c = let f = fitting_at (goal.at.overflow_add-wire c).In-loop-j in omega arith
 
 pub offset_bounds-xs-used : goal.offset_bounds-xs-used
-offset_bounds-xs-used c = let f = fitting-at (goal.at.offset_bounds-xs-used c).In-loop-j in omega arith
+offset_bounds-xs-used c = let f = fitting_at (goal.at.offset_bounds-xs-used c).In-loop-j in omega arith
 
 pub slice_bounds-put_term-count : goal.slice_bounds-put_term-count
-slice_bounds-put_term-count c = let f = fitting-at (goal.at.slice_bounds-put_term-count c).In-loop-j in omega arith
+slice_bounds-put_term-count c = let f = fitting_at (goal.at.slice_bounds-put_term-count c).In-loop-j in omega arith
 
 pub slice_bounds-put_term-start : goal.slice_bounds-put_term-start
-slice_bounds-put_term-start c = let f = fitting-at (goal.at.slice_bounds-put_term-start c).In-loop-j in omega arith
+slice_bounds-put_term-start c = let f = fitting_at (goal.at.slice_bounds-put_term-start c).In-loop-j in omega arith
 
 pub slice_bounds-put_term-end : goal.slice_bounds-put_term-end
-slice_bounds-put_term-end c = let f = fitting-at (goal.at.slice_bounds-put_term-end c).In-loop-j in omega arith
+slice_bounds-put_term-end c = let f = fitting_at (goal.at.slice_bounds-put_term-end c).In-loop-j in omega arith
 
 pub put_term-acc-requires : goal.put_term-acc-requires
 put_term-acc-requires c =
-    let f = fitting-at (goal.at.put_term-acc-requires c).In-loop-j in
+    let f = fitting_at (goal.at.put_term-acc-requires c).In-loop-j in
     let o = as_long _ _ _ _ _ _ _ _ _ _ _ c.loop-j.invariant in
     (simp (length-take, length-drop) (omega arith), simp (length-take, length-drop) (omega arith), simp (length-take, length-drop) (omega arith))
 

@@ -5,33 +5,16 @@ use borrow.Author.Tests.{lt-ltb, le-ltb, eq-eqb, ne_eqb}
 use Rattle.answer.proofs.Rows.{stop, go, pass, refuse_not, refuse_yes}
 use Rattle.netlist.specs.Words.{counts_of, word_count}
 use Rattle.netlist.specs.Check.{counts_answer, net_answer}
-use Rattle.netlist.specs.Sound.{Limits}
 use Rattle.netlist.proofs.Accepted.{counts_done}
-use Rattle.netlist.proofs.check.check_as.Goals.{After-counts-r, After-word_count, In-Done}
+use Rattle.netlist.proofs.check.check_as.Goals.{After-counts-r, After-word_count}
 use Rattle.netlist.proofs.check.check_as.Goals as goal
 
-counted : (c : After-counts-r) → c.counts_of-c.result ≡ counts_of c.args.net.now
-counted c = c.counts_of-c.ensures
-
 judged : (c : After-counts-r) → c.counts-r.result ≡ counts_answer c.args.list (counts_of c.args.net.now)
-judged c = c.counts-r.ensures ∙ ap (counts_answer _) (counted c)
-
-counted-at-In-Done : (c : In-Done) → c.counts_of-c.result ≡ counts_of c.args.net.now
-counted-at-In-Done c = c.counts_of-c.ensures
-
-judged-at-In-Done : (c : In-Done) → c.counts-r.result ≡ counts_answer c.args.list (counts_of c.args.net.now)
-judged-at-In-Done c = c.counts-r.ensures ∙ ap (counts_answer _) (counted-at-In-Done c)
-
--- the counts are within the limits
-limits : (c : In-Done) → Limits (counts_of c.args.net.now)
-limits c = counts_done _ _ (sym (judged-at-In-Done c) ∙ c.in-Done.is)
-
-counted-at-After-word_count : (c : After-word_count) → c.counts_of-c.result ≡ counts_of c.args.net.now
-counted-at-After-word_count c = c.counts_of-c.ensures
+judged c = c.counts-r.ensures ∙ ap (counts_answer _) c.counts_of-c.ensures
 
 -- as many words as they say
 sized : (c : After-word_count) → c.word_count.result ≡ word_count (counts_of c.args.net.now)
-sized c = c.word_count.ensures ∙ ap word_count (counted-at-After-word_count c)
+sized c = c.word_count.ensures ∙ ap word_count c.counts_of-c.ensures
 
 pub returns-then-len-lt-HEADER_WORDS : goal.returns-then-len-lt-HEADER_WORDS
 unfolding net_answer
@@ -53,7 +36,7 @@ returns-then-len-word_count c =
 
 pub wires-requires : goal.wires-requires
 wires-requires c =
-    (rw (counted (goal.at.wires-requires c).After-counts-r) (limits (goal.at.wires-requires c).In-Done), omega (arith, c.word_count.ensures, c.if-len-word_count.false))
+    (rw c.counts_of-c.ensures (counts_done _ _ (sym (judged (goal.at.wires-requires c).After-counts-r) ∙ c.in-Done.is)), omega (arith, c.word_count.ensures, c.if-len-word_count.false))
 
 pub returns : goal.returns
 unfolding net_answer
@@ -61,4 +44,4 @@ returns c =
     pass (refuse_not _ _ _ (le-ltb _ _ c.if-len-lt-HEADER_WORDS.false))
     (go (judged (goal.at.returns c).After-counts-r) c.in-Done.is
     (pass (refuse_not _ _ _ (ap not (eq-eqb _ _ (c.if-len-word_count.false ∙ sized (goal.at.returns c).After-word_count))))
-    (c.wires.ensures ∙ rw (counted (goal.at.returns c).After-counts-r))))
+    (c.wires.ensures ∙ rw c.counts_of-c.ensures)))

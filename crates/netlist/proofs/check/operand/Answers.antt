@@ -11,10 +11,10 @@ use Rattle.netlist.proofs.Gates.{times_most}
 use Rattle.netlist.proofs.check.operand.Goals as goal
 
 -- the limit is the wire, or 1
-limit-most : (u w m : ℕ) → u ≤ 1 → w ≤ m → 1 ≤ m → u * w + (1 - u) ≤ m
-limit-most zero w m h l k = omega arith
-limit-most (suc zero) w m h l k = omega arith
-limit-most (suc (suc u)) w m h l k = absurd (omega arith)
+limit_most : (u w m : ℕ) → u ≤ 1 → w ≤ m → 1 ≤ m → u * w + (1 - u) ≤ m
+limit_most zero w m h l k = omega arith
+limit_most (suc zero) w m h l k = omega arith
+limit_most (suc (suc u)) w m h l k = absurd (omega arith)
 
 high : (u w x : ℕ) → u ≤ 1 → u * w + (1 - u) ≤ x → choose (ltb 0 u) (leb w x) (ltb 0 x) ≡ true
 high zero w x h l = lt-ltb 0 x (omega arith)
@@ -30,7 +30,7 @@ pub overflow_mul-limit : goal.overflow_mul-limit
 overflow_mul-limit c = omega (arith, times_most c.args.used c.args.wire 4294967295 c.requires (omega arith))
 
 pub overflow_add-limit : goal.overflow_add-limit
-overflow_add-limit c = omega (arith, limit-most c.args.used c.args.wire 4294967295 c.requires (omega arith) (omega arith))
+overflow_add-limit c = omega (arith, limit_most c.args.used c.args.wire 4294967295 c.requires (omega arith) (omega arith))
 
 pub returns-then-limit-x : goal.returns-then-limit-x
 unfolding operand_answer
