@@ -1,4 +1,4 @@
--- Laws of the judges that calls share: what Done tells of each, what gives it, and what code that judges leans on.
+-- Laws of the judges that calls share: what done tells of each, what gives it, and what code that judges leans on.
 use Prim.Native.Nat.{ℕ, zero, suc, ◌<◌, ◌≤◌}
 use mathlib.Core.Bool.{Bool, false, not}
 use mathlib.Core.Path.{◌≡◌, sym, ap}
@@ -8,8 +8,10 @@ use native.Mathlib.Omega.{arith}
 use lib.Bits.{or_add_and, and_le_l, and_le_r}
 use lib.ListN.{length, get_or}
 use borrow.Author.Tests.{eq-eqb, eqb-true, not-false, lt-ltb, le-ltb, ltb-false}
-use Rattle.answer.specs.declared.Answer.TheVariants.{Done, Refused}
-use Rattle.answer.specs.Answers.{refuse}
+use Rattle.std.specs.Prelude.{Ok}
+use Rattle.answer.specs.declared.Reason.{Reason}
+use Rattle.answer.specs.declared.Reason.TheVariants.{Length, Bit, Room}
+use Rattle.answer.specs.Answers.{refused, refuse}
 use Rattle.answer.specs.First.{first}
 use Rattle.answer.specs.Judges.{length_answer, first_answer, room_answer}
 use Rattle.answer.specs.Bits.{above_one, bits_answer, or_all}
@@ -19,38 +21,38 @@ use Rattle.answer.proofs.Search.{first_none, none_below}
 -- ---- the first place at which a test holds
 
 -- for code that found it at place r
-pub first_stop : (n l : ℕ) (p : ℕ → Bool) (s : List ℕ) (r : ℕ) → r ≡ first p (length s) → r < length s → Refused n l r ≡ first_answer n l p s
+pub first_stop : (n : Reason) (l : ℕ) (p : ℕ → Bool) (s : List ℕ) (r : ℕ) → r ≡ first p (length s) → r < length s → refused n l r ≡ first_answer n l p s
 unfolding first_answer refuse
 first_stop n l p s r e h = rw (← e, lt-ltb r (length s) h)
 
-pub first_go : (n l : ℕ) (p : ℕ → Bool) (s : List ℕ) (r : ℕ) → r ≡ first p (length s) → length s ≤ r → first_answer n l p s ≡ Done
+pub first_go : (n : Reason) (l : ℕ) (p : ℕ → Bool) (s : List ℕ) (r : ℕ) → r ≡ first p (length s) → length s ≤ r → first_answer n l p s ≡ Ok tt
 unfolding first_answer refuse
 first_go n l p s r e h = rw (← e, le-ltb r (length s) h)
 
-pub first_done_at : (n l : ℕ) (p : ℕ → Bool) (s : List ℕ) → first_answer n l p s ≡ Done → (k : ℕ) → k < length s → p k ≡ false
+pub first_done_at : (n : Reason) (l : ℕ) (p : ℕ → Bool) (s : List ℕ) → first_answer n l p s ≡ Ok tt → (k : ℕ) → k < length s → p k ≡ false
 unfolding first_answer
 first_done_at n l p s e k h = none_below p (length s) k (refuse_done n l _ _ e) h
 
-pub done_first : (n l : ℕ) (p : ℕ → Bool) (s : List ℕ) → ((k : ℕ) → k < length s → p k ≡ false) → first_answer n l p s ≡ Done
+pub done_first : (n : Reason) (l : ℕ) (p : ℕ → Bool) (s : List ℕ) → ((k : ℕ) → k < length s → p k ≡ false) → first_answer n l p s ≡ Ok tt
 done_first n l p s h = first_go n l p s (length s) (sym (first_none p (length s) h)) (omega arith)
 
 -- ---- lengths and room
 
-pub length_done : (l len n : ℕ) → length_answer l len n ≡ Done → len ≡ n
+pub length_done : (l len n : ℕ) → length_answer l len n ≡ Ok tt → len ≡ n
 unfolding length_answer
-length_done l len n e = eqb-true len n (not-false _ (refuse_done 3 l len _ e))
+length_done l len n e = eqb-true len n (not-false _ (refuse_done Length l len _ e))
 
-pub done_length : (l len n : ℕ) → len ≡ n → length_answer l len n ≡ Done
+pub done_length : (l len n : ℕ) → len ≡ n → length_answer l len n ≡ Ok tt
 unfolding length_answer
-done_length l len n e = refuse_not 3 l len (ap not (eq-eqb len n e))
+done_length l len n e = refuse_not Length l len (ap not (eq-eqb len n e))
 
-pub room_done : (l len n : ℕ) → room_answer l len n ≡ Done → n ≤ len
+pub room_done : (l len n : ℕ) → room_answer l len n ≡ Ok tt → n ≤ len
 unfolding room_answer
-room_done l len n e = ltb-false len n (refuse_done 8 l len _ e)
+room_done l len n e = ltb-false len n (refuse_done Room l len _ e)
 
-pub done_room : (l len n : ℕ) → n ≤ len → room_answer l len n ≡ Done
+pub done_room : (l len n : ℕ) → n ≤ len → room_answer l len n ≡ Ok tt
 unfolding room_answer
-done_room l len n h = refuse_not 8 l len (le-ltb len n h)
+done_room l len n h = refuse_not Room l len (le-ltb len n h)
 
 -- ---- bits
 
@@ -61,13 +63,13 @@ bits-within (b ∷ v) h zero = h 0 (omega arith)
 bits-within (b ∷ v) h (suc i) = bits-within v (λ k e. h (suc k) (omega arith)) i
 
 -- A list judged for 4 is done exactly if each of its bytes is a bit.
-pub bits_done : (l : ℕ) (s : List ℕ) → bits_answer l s ≡ Done → (k : ℕ) → k < length s → get_or s k 0 ≤ 1
+pub bits_done : (l : ℕ) (s : List ℕ) → bits_answer l s ≡ Ok tt → (k : ℕ) → k < length s → get_or s k 0 ≤ 1
 unfolding bits_answer above_one
-bits_done l s e k h = ltb-false 1 (get_or s k 0) (first_done_at 4 l (above_one s) s e k h)
+bits_done l s e k h = ltb-false 1 (get_or s k 0) (first_done_at Bit l (above_one s) s e k h)
 
-pub done_bits : (l : ℕ) (s : List ℕ) → ((k : ℕ) → k < length s → get_or s k 0 ≤ 1) → bits_answer l s ≡ Done
+pub done_bits : (l : ℕ) (s : List ℕ) → ((k : ℕ) → k < length s → get_or s k 0 ≤ 1) → bits_answer l s ≡ Ok tt
 unfolding bits_answer above_one
-done_bits l s h = done_first 4 l (above_one s) s (λ k m. le-ltb 1 (get_or s k 0) (h k m))
+done_bits l s h = done_first Bit l (above_one s) s (λ k m. le-ltb 1 (get_or s k 0) (h k m))
 
 -- no byte is above all of them or'ed together
 pub or_above : (s : List ℕ) (n k : ℕ) → k < n → get_or s k 0 ≤ or_all s n

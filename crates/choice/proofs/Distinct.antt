@@ -9,7 +9,7 @@ use lib.ListN.{length, get_or, set, take, length-set}
 use lib.Dec.{eqb}
 use lib.Seq.{get_or-set_same, get_or-set_other, get_or-take, length-take-le}
 use borrow.Author.Tests.{eqb-true, eqb-false}
-use Rattle.answer.specs.declared.Answer.TheVariants.{Done}
+use Rattle.std.specs.Prelude.{Ok}
 use Rattle.answer.specs.Choose.{choose}
 use Rattle.instance.specs.Table.{key_bits, row_bits}
 use Rattle.choice.specs.Choice.{up_to, swap, swaps, chosen, row_of, choose_answer}
@@ -109,7 +109,7 @@ chosen_distinct N draws f =
     (swaps_distinct N draws 0 (up_to N) (λ k l. omega (arith, f.low k l)) (in_order N))
 
 -- the row of an accepted choice
-module _ (inst : ℕ) (draws : List ℕ) (room : ℕ) (e : choose_answer inst draws room ≡ Done) where
+module _ (inst : ℕ) (draws : List ℕ) (room : ℕ) (e : choose_answer inst draws room ≡ Ok tt) where
   pub row_distinct : Distinct (key_bits inst) (row_of inst draws)
   row_distinct = rw (← counted inst draws room e) (chosen_distinct (key_bits inst) draws (fit inst draws room e))
 

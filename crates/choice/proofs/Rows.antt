@@ -10,7 +10,7 @@ use borrow.Author.Tests.{ne_eqb}
 use lib.Arith.{digits_lt}
 use lib.ListN.{length, get_or, length-append, get_or-append}
 use lib.Seq.{get_or-append-add}
-use Rattle.answer.specs.declared.Answer.TheVariants.{Done}
+use Rattle.std.specs.Prelude.{Ok}
 use Rattle.instance.specs.Table.{key_bits, row_bits, white_bits}
 use Rattle.instance.specs.Judging.{rows_answer}
 use Rattle.instance.specs.Wired.{Wired, Bits}
@@ -29,7 +29,7 @@ module _ (inst : ℕ) (draws : ℕ → List ℕ) (room : ℕ → ℕ) where
   n = row_bits inst
 
   abbrev Accepted : ℕ → Type 0
-  Accepted m = (t : ℕ) → t < m → choose_answer inst (draws t) (room t) ≡ Done
+  Accepted m = (t : ℕ) → t < m → choose_answer inst (draws t) (room t) ≡ Ok tt
 
   rows_length : (m : ℕ) → Accepted m → length (rows_of inst draws m) ≡ m * n
   unfolding rows_of
@@ -71,7 +71,7 @@ module _ (inst : ℕ) (draws : ℕ → List ℕ) (room : ℕ → ℕ) where
         }
 
     -- The row judges of a cipher call, as whose list l they are handed on, accept them.
-    pub rows_accepted : (l : ℕ) → rows_answer l (key_bits inst) n (rows_of inst draws m) ≡ Done
+    pub rows_accepted : (l : ℕ) → rows_answer l (key_bits inst) n (rows_of inst draws m) ≡ Ok tt
     rows_accepted l =
         let r = rows_rowed in
         done_rows l (key_bits inst) n m (rows_of inst draws m) r.indices r.below r.distinct
@@ -96,7 +96,7 @@ module _ (inst : ℕ) (draws : ℕ → List ℕ) (room : ℕ → ℕ) where
         }
 
 -- one row
-pub row_accepted : (l inst : ℕ) (draws : List ℕ) (room : ℕ) → choose_answer inst draws room ≡ Done
-    → rows_answer l (key_bits inst) (row_bits inst) (row_of inst draws) ≡ Done
+pub row_accepted : (l inst : ℕ) (draws : List ℕ) (room : ℕ) → choose_answer inst draws room ≡ Ok tt
+    → rows_answer l (key_bits inst) (row_bits inst) (row_of inst draws) ≡ Ok tt
 unfolding rows_of
 row_accepted l inst draws room e = rows_accepted inst (λ t. draws) (λ t. room) 1 (λ t h. e) l

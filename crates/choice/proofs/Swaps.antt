@@ -7,7 +7,7 @@ use native.Mathlib.Omega.{arith}
 use native.Mathlib.Numerals.{add-one}
 use native.Mathlib.Nat.{eq-or-lt_of_le, le_antisymm}
 use lib.ListN.{length, get_or, set, take, drop, length-append, length-set, get_or-append}
-use lib.Seq.{drop-cons, drop-length, get_or_at, take-suc, length-take-le, set-append_left, take-append-le}
+use lib.Seq.{drop-cons, drop-length, get_or_at, set-append_left, take-append-le}
 use Rattle.answer.specs.Fronts.{over}
 use Rattle.answer.proofs.Over.{over_none, over_next}
 use Rattle.choice.specs.Choice.{up_to, swap, swaps, chosen}
@@ -36,22 +36,6 @@ module _ (s : List ℕ) where
   unfolding up_to
   fill_more i h =
       over_next (up_to i) s i i (up_to-length i) h ∙ ap (λ (n : ℕ). over (up_to n) s) (sym (add-one i))
-
-  pub fill_all : (i n : ℕ) → i ≤ n → n ≤ i → over (up_to i) s ≡ over (up_to n) s
-  fill_all i n h l = ap (λ (k : ℕ). over (up_to k) s) (le_antisymm h l)
-
--- The first words of a list, copied.
-module _ (from s : List ℕ) where
-  pub copy_none : s ≡ over (take 0 from) s
-  copy_none = sym (over_none s)
-
-  pub copy_more : (i : ℕ) → i < length from → i < length s → set (over (take i from) s) i (get_or from i 0) ≡ over (take (i + 1) from) s
-  copy_more i h l =
-      over_next (take i from) s i (get_or from i 0) (length-take-le i from (omega arith)) l
-      ∙ ap (λ (t : List ℕ). over t s) (sym (ap (λ (k : ℕ). take k from) (add-one i) ∙ take-suc from i 0 h))
-
-  pub copy_all : (i n : ℕ) → i ≤ n → n ≤ i → over (take i from) s ≡ over (take n from) s
-  copy_all i n h l = ap (λ (k : ℕ). over (take k from) s) (le_antisymm h l)
 
 -- Lengths.
 pub swap-length : (i j : ℕ) (s : List ℕ) → length (swap i j s) ≡ length s
@@ -90,10 +74,6 @@ swaps-front (d ∷ ds) i s t f =
     ap (swaps (suc i) ds) (swap-front i (i + d) s t (omega arith) h)
     ∙ swaps-front ds (suc i) (swap i (i + d) s) t
     (λ k l. omega (arith, f (suc k) (omega arith), swap-length i (i + d) s))
-
-pub wider : {N M : ℕ} {draws : List ℕ} → DrawsFit N draws → N ≤ M → DrawsFit M draws
-wider f h =
-    record { count = omega (arith, f.count); low = λ i l. omega (arith, f.low i l) }
 
 -- The row, from wires of which the first N were put in order and then swapped.
 pub row_right : (N : ℕ) (draws w₀ w₁ w₂ row : List ℕ) → DrawsFit N draws → w₁ ≡ over (up_to N) w₀ → w₂ ≡ swaps 0 draws w₁

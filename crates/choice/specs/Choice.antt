@@ -1,8 +1,8 @@
 -- Ordered choice of wires from public draws. docs/RULES.md, "Choice from draws": begin with 0..N-1 in order; for i = 0..n-1 swap places
 -- i and i + draw(i), draw(i) below N-i; the row is the first n places. Lists: 1 the draws, 2 the row.
+use Rattle.answer.specs.declared.Reason.TheVariants.{Draw, Instance}
 use Rattle.std.specs.Prelude.{ℕ, zero, suc, ◌+◌, ◌-◌, ◌≡◌, Bool, List, [], ◌∷◌, ◌++◌, length, get_or, set, take, leb}
-use Rattle.answer.specs.declared.Answer.{Answer}
-use Rattle.answer.specs.Answers.{◌▹◌, refuse}
+use Rattle.answer.specs.Answers.{Answer, ◌▹◌, refuse}
 use Rattle.answer.specs.Fronts.{left}
 use Rattle.instance.specs.Table.{key_bits, row_bits}
 use Rattle.instance.specs.Judging.{outside}
@@ -41,10 +41,10 @@ past_draw N draws i = leb (N - i) (get_or draws i 0)
 -- 1, 3, 8, 14, where so many words are lent for the row
 unfoldable pub choose_answer : ℕ → List ℕ → ℕ → Answer
 choose_answer inst draws room =
-    refuse 1 0 0 (outside 1 5 inst)
+    refuse Instance 0 0 (outside 1 5 inst)
     ▹ length_answer 1 (length draws) (row_bits inst)
     ▹ room_answer 2 room (row_bits inst)
-    ▹ first_answer 14 1 (past_draw (key_bits inst) draws) draws
+    ▹ first_answer Draw 1 (past_draw (key_bits inst) draws) draws
 
 -- what a call that was lent draws and row answers, and what it leaves in the row
 pub record Chosen (inst : ℕ) (draws row : List ℕ) (r : Answer) (row' : List ℕ) : Type 0 where

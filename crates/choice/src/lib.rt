@@ -2,164 +2,120 @@
 // are the draws and the row.
 #![tactic(auto)]
 
-ghost use Rattle.std.specs.Prelude.{◌≡◌, ◌≤◌, length, take};
-ghost use Rattle.answer.specs.First.{first};
+ghost use Rattle.std.specs.Prelude.{◌≡◌, ◌≤◌, length, MatchResult};
+ghost use Rattle.instance.specs.Table.{key_bits};
+ghost use Rattle.answer.specs.Judges.{first_answer};
+ghost use Rattle.answer.specs.declared.Reason.TheVariants.{Draw};
 ghost use Rattle.answer.specs.Fronts.{over};
 ghost use Rattle.choice.specs.Choice.{up_to, swaps, chosen, past_draw, choose_answer, Chosen};
 ghost use Rattle.choice.specs.Inner.{DrawsFit};
 
-use answer::Answer;
+use answer::{Answer, Reason, Refusal};
 
 // The numbers of the wires, in order, at the front. A wire's number takes half a word: the fewer bytes, the sooner
-// they are set.
+// they are set. Written by index, which is the value too.
 fn fill(wires: &mut [u16], key: usize)
     requires { (key ≤ length wires.old) × (key ≤ 16384) }
     ensures { wires.new ≡ over (up_to key) wires.old }
 {
-    let mut i: usize = 0;
-    while i < key {
+    for i in 0..key {
         wires[i] = i as u16;
-        i += 1;
     }
 }
 
-// The swaps, one for each draw.
+// The swaps, one for each draw. `swap` of slices asks first which place is the lower, and was up to a third slower.
 fn exchange(draws: &[u32], wires: &mut [u16])
     requires { DrawsFit (length wires.old) draws.now }
     ensures { wires.new ≡ swaps 0 draws.now wires.old }
 {
-    let mut i: usize = 0;
-    while i < draws.len() {
-        let j = i + draws[i] as usize;
-        let x = wires[i];
-        let y = wires[j];
-        wires[i] = y;
-        wires[j] = x;
-        i += 1;
+    for (i, &draw) in draws.iter().enumerate() {
+        let j = i + draw as usize;
+        (wires[i], wires[j]) = (wires[j], wires[i]);
     }
 }
 
-fn wide(x: u16) -> u32
-    ensures { result ≡ x }
+// The wires at the front of the row.
+fn copy(wires: &[u16], row: &mut [u32])
+    requires { length wires.now ≤ length row.old }
+    ensures { row.new ≡ over wires.now row.old }
 {
-    x as u32
-}
-
-// The first places of the wires, at the row's front.
-fn copy(wires: &[u16], row: &mut [u32], count: usize)
-    requires { (count ≤ length wires.now) × (count ≤ length row.old) }
-    ensures { row.new ≡ over (take count wires.now) row.old }
-{
-    let mut i: usize = 0;
-    while i < count {
-        row[i] = wide(wires[i]);
-        i += 1;
+    for (i, &wire) in wires.iter().enumerate() {
+        row[i] = u32::from(wire);
     }
 }
 
-// The row of draws that were judged. The wires are lent to work in; what stands in them does not count.
-fn put_row(draws: &[u32], wires: &mut [u16], row: &mut [u32], key: usize)
-    requires { DrawsFit key draws.now × (key ≤ length wires.old) × (key ≤ 16384) × (length draws.now ≤ length row.old) }
-    ensures { row.new ≡ over (chosen key (length draws.now) draws.now) row.old }
-{
-    fill(wires, key);
-    exchange(draws, wires);
-    copy(wires, row, draws.len());
+// Draws that were judged, and the size of the key that they choose from.
+#[derive(Clone, Copy)]
+struct Judged<'a> {
+    draws: &'a [u32],
+    key: usize,
+    ghost fit: { DrawsFit key draws.now },
+    ghost small: { key ≤ 16384 },
 }
 
-// The same with wires of its own, as many as the two smallest keys have, or the middle one, or the two largest: all
-// are set to 0 first.
-fn put_few(draws: &[u32], row: &mut [u32], key: usize)
-    requires { DrawsFit key draws.now × (key ≤ 1394) × (length draws.now ≤ length row.old) }
-    ensures { row.new ≡ over (chosen key (length draws.now) draws.now) row.old }
-{
-    let mut wires = [0u16; 1394];
-    put_row(draws, &mut wires, row, key);
-}
-
-fn put_some(draws: &[u32], row: &mut [u32], key: usize)
-    requires { DrawsFit key draws.now × (key ≤ 4096) × (length draws.now ≤ length row.old) }
-    ensures { row.new ≡ over (chosen key (length draws.now) draws.now) row.old }
-{
-    let mut wires = [0u16; 4096];
-    put_row(draws, &mut wires, row, key);
-}
-
-fn put_many(draws: &[u32], row: &mut [u32], key: usize)
-    requires { DrawsFit key draws.now × (key ≤ 16384) × (length draws.now ≤ length row.old) }
-    ensures { row.new ≡ over (chosen key (length draws.now) draws.now) row.old }
-{
-    let mut wires = [0u16; 16384];
-    put_row(draws, &mut wires, row, key);
-}
-
-fn put(draws: &[u32], row: &mut [u32], key: usize)
-    requires { DrawsFit key draws.now × (key ≤ 16384) × (length draws.now ≤ length row.old) }
-    ensures { row.new ≡ over (chosen key (length draws.now) draws.now) row.old }
-{
-    if key <= 1394 {
-        put_few(draws, row, key);
-    } else if key <= 4096 {
-        put_some(draws, row, key);
-    } else {
-        put_many(draws, row, key);
+impl Judged<'_> {
+    // The row, over N wires to work in. All are set to 0 first.
+    fn put_in<const N: usize>(self, row: &mut [u32])
+        requires { (self.key ≤ N) × (N ≤ 16384) × (length self.draws.now ≤ length row.old) }
+        ensures { let j = self.entry in row.new ≡ over (chosen j.key (length j.draws.now) j.draws.now) row.old }
+    {
+        let mut wires = [0u16; N];
+        fill(&mut wires, self.key);
+        exchange(self.draws, &mut wires);
+        copy(&wires[..self.draws.len()], row);
     }
-}
 
-// The place of the first draw that is not below the number of places left to it; the length where there is none.
-fn first_past(draws: &[u32], key: usize) -> usize
-    requires { length draws.now ≤ key }
-    ensures { result ≡ first (past_draw key draws.now) (length draws.now) }
-{
-    let mut i: usize = 0;
-    while i < draws.len() {
-        if key - i <= draws[i] as usize {
-            return i;
+    // As many wires as the two smallest keys have, or the middle one, or the two largest.
+    fn put(self, row: &mut [u32])
+        requires { length self.draws.now ≤ length row.old }
+        ensures { let j = self.entry in row.new ≡ over (chosen j.key (length j.draws.now) j.draws.now) row.old }
+    {
+        match self.key {
+            0..=1394 => self.put_in::<1394>(row),
+            1395..=4096 => self.put_in::<4096>(row),
+            _ => self.put_in::<16384>(row),
         }
-        i += 1;
     }
-    i
 }
 
-fn judge(instance: u32, draws: &[u32], room: usize) -> Answer
-    ensures { result ≡ choose_answer instance draws.now «room» }
+// 14: a draw that is not below the number of places left to it.
+fn judge_draws(draws: &[u32], key: usize) -> Answer
+    requires { length draws.now ≤ key }
+    ensures { result ≡ first_answer Draw 1 (past_draw key draws.now) draws.now }
 {
-    let wrong = answer::refused(answer::INSTANCE, 0, 0);
-    if instance < 1 {
-        return wrong;
+    for (i, &draw) in draws.iter().enumerate() {
+        if key - i <= draw as usize {
+            return answer::refused(Reason::Draw, 1, i);
+        }
     }
-    if 5 < instance {
-        return wrong;
+    Ok(())
+}
+
+fn judge(instance: u32, draws: &[u32], room: usize) -> Result<Judged<'_>, Refusal>
+    ensures { MatchResult result (λ j. (choose_answer instance draws.now «room» ≡ Ok tt) × (j.draws.now ≡ draws.now) × (j.key ≡ key_bits instance)) (λ e. choose_answer instance draws.now «room» ≡ Err e) }
+{
+    if instance < 1 || 5 < instance {
+        return Err(Refusal {
+            reason: Reason::Instance,
+            list: 0,
+            place: 0,
+        });
     }
     let sizes = instance::sizes_of(instance);
-    let key = sizes.key;
-    let size = sizes.row;
-    let len = draws.len();
-    let r = answer::exact(len, size, 1);
-    let Answer::Done = r else {
-        return r;
-    };
-    let s = answer::room(room, size, 2);
-    let Answer::Done = s else {
-        return s;
-    };
-    let place = first_past(draws, key);
-    if place < len {
-        return answer::refused(answer::DRAW, 1, place);
-    }
-    Answer::Done
+    answer::exact(draws.len(), sizes.row, 1)?;
+    answer::room(room, sizes.row, 2)?;
+    judge_draws(draws, sizes.key)?;
+    Ok(Judged {
+        draws,
+        key: sizes.key,
+    })
 }
 
 // The row that the draws choose.
 pub fn choose(instance: u32, draws: &[u32], row: &mut [u32]) -> Answer
     ensures { Chosen instance draws.now row.old result row.new }
 {
-    let r = judge(instance, draws, row.len());
-    let Answer::Done = r else {
-        return r;
-    };
-    let sizes = instance::sizes_of(instance);
-    let key = sizes.key;
-    put(draws, row, key);
-    Answer::Done
+    let judged = judge(instance, draws, row.len())?;
+    judged.put(row);
+    Ok(())
 }

@@ -1,12 +1,12 @@
 -- What the writers of the keystream are given of an accepted call.
-use Prim.Native.Nat.{ℕ, ◌*◌, ◌≤◌}
+use Prim.Native.Nat.{ℕ, ◌≤◌}
 use mathlib.Core.Path.{◌≡◌, refl, ap, sym, ◌∙◌}
 use mathlib.Core.List.{List}
 use native.Mathlib.Omega.{arith}
 use lib.ListN.{length, get_or}
 use borrow.Author.Tests.{ne_eqb}
 use Rattle.answer.proofs.Judges.{bits-within}
-use Rattle.instance.specs.Table.{row_bits, white_bits}
+use Rattle.instance.specs.Table.{white_bits}
 use Rattle.instance.specs.Wired.{Wired}
 use Rattle.instance.specs.Keys.{Keyed, key_in}
 use Rattle.instance.proofs.Judged.{row_small}
@@ -17,17 +17,13 @@ use Rattle.cipher.specs.Cipher.{keystream_of}
 use Rattle.cipher.specs.Inner.{RowsLent}
 
 -- the rows of instances 1 to 5
-pub rows_lent : (inst m : ℕ) (idx wh : List ℕ) → Wired inst m idx wh → (inst ≡ 6 → ⊥) → RowsLent inst idx wh 1394 m
+pub rows_lent : (inst m : ℕ) (idx wh : List ℕ) → Wired inst m idx wh → (inst ≡ 6 → ⊥) → RowsLent inst (length idx) 1394 m
+rows_lent inst m idx wh s h = record { fits = row_small inst; few = s.few; indices = omega (arith, s.indices) }
+
+-- each has its whitening
+pub whitening_lent : (inst m : ℕ) (idx wh : List ℕ) → Wired inst m idx wh → (inst ≡ 6 → ⊥) → length wh ≡ length idx
 unfolding white_bits
-rows_lent inst m idx wh s h =
-    let w : length wh ≡ m * row_bits inst = s.whitening ∙ rw (ne_eqb inst 6 h) in
-    record {
-      fits = row_small inst;
-      few = s.few;
-      indices = omega (arith, s.indices);
-      whitening = omega arith;
-      below = λ j l. s.below j (omega (arith, s.indices));
-    }
+whitening_lent inst m idx wh s h = s.whitening ∙ rw (ne_eqb inst 6 h) (sym s.indices)
 
 -- Kreyvium's IV
 pub iv-lent : (inst m : ℕ) (idx wh : List ℕ) → Wired inst m idx wh → inst ≡ 6 → (m ≤ 64) × (length wh ≡ 128) × ((i : ℕ) → get_or wh i 0 ≤ 1)

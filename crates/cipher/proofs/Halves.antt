@@ -50,12 +50,6 @@ gathered a b c d e f g h p q r s t u v w =
     middle : (x m y : ℕ) → x < 2097152 → m < 256 → (x + (m + y * 256) * 2097152) / 2097152 % 256 ≡ m
     middle x m y j k = omega arith
 
--- for the code that makes them of four bytes
-pub apart-sum : (s : List ℕ) (at a b d e : ℕ) → a ≡ get_or s at 0 → b ≡ get_or s (at + 1) 0 → d ≡ get_or s (at + 2) 0 → e ≡ get_or s (at + 3) 0
-    → a + b * 256 + d * 65536 + e * 16777216 ≡ apart s at
-unfolding apart
-apart-sum s at a b d e f g h i = rw (f, g, h, i) refl
-
 pub part_gathered : (s : List ℕ) (at : ℕ) → at + 8 ≤ length s → ((i : ℕ) → get_or s i 0 ≤ 1)
     → (apart s at + apart s (at + 4) * 16) * 2113665 / 2097152 % 256 ≡ part s at 8
 unfolding apart packed

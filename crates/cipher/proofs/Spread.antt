@@ -1,21 +1,21 @@
 -- Eight bits as eight bytes, and how they are stored.
-use Prim.Native.Nat.{ℕ, zero, suc, ◌+◌, ◌*◌, ◌-◌, ◌/◌, ◌%◌, ◌^◌, ◌<◌, ◌≤◌}
-use mathlib.Core.Path.{◌≡◌, refl, ap, sym, ◌∙◌}
+use Prim.Native.Nat.{suc, zero, ℕ, ◌%◌, ◌*◌, ◌+◌, ◌-◌, ◌/◌, ◌<◌, ◌^◌, ◌≤◌}
+use mathlib.Core.Path.{ap, refl, sym, ◌∙◌, ◌≡◌}
 use mathlib.Core.Logic.{⊎_elim}
 use mathlib.Core.List.{List}
-use native.Mathlib.Nat.{not-suc-le-zero, le_of_suc-le-suc, eq-or-lt_of_le}
+use native.Mathlib.Nat.{eq-or-lt_of_le, le_of_suc-le-suc, not-suc-le-zero}
 use native.Mathlib.Omega.{arith}
-use native.Mathlib.Numerals.{add-one, towards_suc}
+use native.Mathlib.Numerals.{add-one}
+use borrow.Rule.Slice.PartMut.{put_mid}
 use lib.Bits.{bit_and}
-use lib.ListN.{length, set}
-use lib.Seq.{sets}
+use lib.ListN.{length}
 use lib.Pow.{field, mod-mod-pow, shr-shr}
 use Rattle.answer.specs.Fronts.{over}
-use Rattle.answer.proofs.Over.{over-over, over-sets}
+use Rattle.answer.proofs.Over.{over-over, over-tail}
 use Rattle.kreyvium.specs.Words.{bit}
 use Rattle.filter.specs.Filter.{tab}
 use Rattle.filter.proofs.Tab.{tab-length, tab-same, tab_add}
-use Rattle.cipher.specs.Inner.{low_four}
+use Rattle.std.specs.Int.{to_le_bytes, w64}
 use Rattle.cipher.proofs.Block.{block_bit}
 
 -- what the code makes of them
@@ -50,36 +50,19 @@ spread_right b k h g =
     equal : (x y : ℕ) → (x - y) + (y - x) ≡ 0 → x ≡ y
     equal x y e = omega arith
 
--- ---- bytes stored
-pub four_set : (x at : ℕ) (l : List ℕ) → set (set (set (set l at (x % 256)) (at + 1) (x / 2 ^ 8 % 256)) (at + 2) (x / 2 ^ 16 % 256)) (at + 3) (x / 2 ^ 24 % 256) ≡ sets l at (low_four x)
-unfolding low_four tab
-four_set x at l = rw (whole x) (simp towards_suc)
-  where
-    whole : (x : ℕ) → x / 1 ≡ x
-    whole x = omega arith
-
-module _ (f : ℕ → ℕ) (old : List ℕ) where
-  four_more : (i x : ℕ) → i + 4 ≤ length old → ((k : ℕ) → k < 4 → x / 2 ^ (8 * k) % 256 ≡ f (i + k))
-      → sets (over (tab f i) old) i (low_four x) ≡ over (tab f (i + 4)) old
-  unfolding low_four
-  four_more i x h r =
-      let w = tab (λ k. f (i + k)) 4 in
-      ap (sets (over (tab f i) old) i) (tab-same _ _ 4 r)
-      ∙ over-sets (tab f i) w old i (tab-length f i) (omega (arith, tab-length (λ k. f (i + k)) 4))
-      ∙ ap (λ (t : List ℕ). over t old) (sym (tab_add f i 4))
-
-  eight_more : (i x : ℕ) → i + 8 ≤ length old → ((k : ℕ) → k < 8 → x / 2 ^ (8 * k) % 256 ≡ f (i + k))
-      → sets (sets (over (tab f i) old) i (low_four x)) (i + 4) (low_four (x / 2 ^ 32)) ≡ over (tab f (i + 8)) old
-  eight_more i x h r =
-      ap (λ (l : List ℕ). sets l (i + 4) (low_four (x / 2 ^ 32))) (four_more i x (omega arith) (λ k l. r k (omega arith)))
-      ∙ four_more (i + 4) (x / 2 ^ 32) (omega arith) upper
-      ∙ ap (λ (k : ℕ). over (tab f k) old) (omega arith)
-    where
-      upper : (k : ℕ) → k < 4 → x / 2 ^ 32 / 2 ^ (8 * k) % 256 ≡ f (i + 4 + k)
-      upper k l =
-          let e : 32 + 8 * k ≡ 8 * (k + 4) = omega arith in
-          let g : i + (k + 4) ≡ i + 4 + k = omega arith in
-          ap (λ (y : ℕ). y % 256) (shr-shr x 32 (8 * k) ∙ ap (λ (j : ℕ). x / 2 ^ j) e) ∙ r (k + 4) (omega arith) ∙ ap f g
+-- a word's bytes, the lowest first, are those of a table
+pub eight_bytes : (x : ℕ) (f : ℕ → ℕ) {bytes : List ℕ} → bytes ≡ to_le_bytes w64 x → ((k : ℕ) → k < 8 → x / 2 ^ (8 * k) % 256 ≡ f k) → bytes ≡ tab f 8
+unfolding tab
+eight_bytes x f e h =
+    let h0 : x % 256 ≡ f 0 = omega (arith, h 0 (omega arith)) in
+    let h1 : x / 256 % 256 ≡ f 1 = h 1 (omega arith) in
+    let h2 : x / 65536 % 256 ≡ f 2 = h 2 (omega arith) in
+    let h3 : x / 16777216 % 256 ≡ f 3 = h 3 (omega arith) in
+    let h4 : x / 4294967296 % 256 ≡ f 4 = h 4 (omega arith) in
+    let h5 : x / 1099511627776 % 256 ≡ f 5 = h 5 (omega arith) in
+    let h6 : x / 281474976710656 % 256 ≡ f 6 = h 6 (omega arith) in
+    let h7 : x / 72057594037927936 % 256 ≡ f 7 = h 7 (omega arith) in
+    e ∙ cc
 
 -- a bit of the byte that starts at place i of a block
 byte_bit : (z i k : ℕ) → i + 8 ≤ 64 → k < 8 → bit (z / 2 ^ (56 - i) % 256) (7 - k) ≡ block_bit z (i + k)
@@ -95,12 +78,18 @@ byte_bit z i k h l =
     ∙ mod-mod-pow (w / 2 ^ j) k 1
     ∙ ap (λ (y : ℕ). y % 2) (shr-shr z (56 - i) j ∙ ap (λ (n : ℕ). z / 2 ^ n) g)
 
-pub block_eight : (z i x : ℕ) (old out : List ℕ) → i + 8 ≤ 64 → i + 8 ≤ length old
-    → ((k : ℕ) → k < 8 → x / 2 ^ (8 * k) % 256 ≡ bit (z / 2 ^ (56 - i) % 256) (7 - k)) → out ≡ over (tab (block_bit z) i) old
-    → sets (sets out i (low_four x)) (i + 4) (low_four (x / 2 ^ 32)) ≡ over (tab (block_bit z) (i + 8)) old
-block_eight z i x old out g h r e =
-    ap (λ (l : List ℕ). sets (sets l i (low_four x)) (i + 4) (low_four (x / 2 ^ 32))) e
-    ∙ eight_more (block_bit z) old i x h (λ k l. r k l ∙ byte_bit z i k g l)
+-- eight bytes more of a block
+pub block_bytes : (z e k : ℕ) (old out bytes : List ℕ) → 8 * e + 8 ≤ 64 → k ≡ 8 → out ≡ over (tab (block_bit z) (8 * e)) old
+    → bytes ≡ tab (λ k. bit (z / 2 ^ (56 - 8 * e) % 256) (7 - k)) 8 → put_mid (8 * e) k out bytes ≡ over (tab (block_bit z) (8 * (e + 1))) old
+unfolding over
+block_bytes z e k old out bytes g m o b =
+    let i : ℕ = 8 * e in
+    let n : 8 * (e + 1) ≡ i + 8 = omega arith in
+    let w = tab (λ k. block_bit z (i + k)) 8 in
+    let q : bytes ≡ w = b ∙ tab-same _ _ 8 (λ k l. byte_bit z i k g l) in
+    let l : k ≡ length w = omega (arith, tab-length (λ k. block_bit z (i + k)) 8) in
+    rw (o, q, n, l)
+    (over-tail (tab (block_bit z) i) w old i (tab-length (block_bit z) i) ∙ ap (λ (t : List ℕ). over t old) (sym (tab_add (block_bit z) i 8)))
 
 -- a front that stands in a list already
 pub over_twice : (t old out : List ℕ) → out ≡ over t old → out ≡ over t out

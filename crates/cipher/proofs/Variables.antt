@@ -1,14 +1,13 @@
 -- Laws of rows and their variables.
-use Prim.Native.Nat.{ℕ, ◌+◌, ◌*◌, ◌%◌, ◌<◌, ◌≤◌}
-use mathlib.Core.Path.{◌≡◌, ap, ap₂, sym, ◌∙◌}
+use Prim.Native.Nat.{ℕ, ◌+◌, ◌-◌, ◌*◌, ◌%◌, ◌<◌, ◌≤◌}
+use mathlib.Core.Path.{◌≡◌, refl, ap, ap₂, sym, ◌∙◌}
 use mathlib.Core.List.{List, [], ◌∷◌, ◌++◌, append_assoc, append-nil}
-use mathlib.Core.Logic.{⊎_elim}
 use native.Mathlib.Omega.{arith}
-use native.Mathlib.Nat.{add-mul, one-mul, mul-le-mul_right, eq-or-lt_of_le}
+use native.Mathlib.Nat.{add-mul, one-mul, mul-le-mul_right}
 use native.Mathlib.Numerals.{add-one}
 use lib.Bits.{bit_xor, xor_add_and}
-use lib.ListN.{length, get_or, set, take, drop}
-use lib.Seq.{get_or-set_same, get_or-set_other, take-suc-set}
+use lib.ListN.{length, get_or, set, take, drop, length-take, length-drop}
+use lib.Seq.{get_or-take, get_or-drop, take-suc-set}
 use Rattle.instance.specs.Table.{row_bits}
 use Rattle.filter.specs.Filter.{var, tab}
 use Rattle.filter.specs.Instances.{filter_of, row_bit}
@@ -19,15 +18,6 @@ use Rattle.cipher.specs.Rows.{stream_bit}
 pub low_bit : (bits row w : List ℕ) (j k : ℕ) → k % 2 ≡ get_or bits (get_or row j 0) 0 → bit_xor k (get_or w j 0) % 2 ≡ var bits row w j
 unfolding var
 low_bit bits row w j k e = omega (arith, xor_add_and k (get_or w j 0))
-
--- one more place whose low bit is f's value
-pub filled_more : (f : ℕ → ℕ) (l : List ℕ) (t v : ℕ) → t < length l → v % 2 ≡ f t → ((s : ℕ) → s < t → get_or l s 0 % 2 ≡ f s)
-    → (s : ℕ) → s < t + 1 → get_or (set l t v) s 0 % 2 ≡ f s
-filled_more f l t v h e g s k =
-    ⊎_elim
-    (λ (q : s ≡ t). ap (λ (n : ℕ). get_or (set l t v) n 0 % 2) q ∙ ap (λ (y : ℕ). y % 2) (get_or-set_same l t v 0 h) ∙ e ∙ ap f (sym q))
-    (λ (q : s < t). ap (λ (y : ℕ). y % 2) (get_or-set_other l t s v 0 (λ (z : s ≡ t). omega arith)) ∙ g s q)
-    (eq-or-lt_of_le {n = s} {m = t} (omega arith))
 
 -- no value of a table yet, and one more, written behind a front
 pub written_none : (f : ℕ → ℕ) (x : List ℕ) (i : ℕ) → take (i + 0) x ≡ take i x ++ tab f 0
@@ -56,11 +46,32 @@ row_in i m n h =
     let l : i + 1 ≤ m = omega arith in
     rw (← row_next i n) (mul-le-mul_right n l)
 
--- a keystream bit over the parts of the lists from row i on
-pub bit_is : (inst : ℕ) (bits idx wh : List ℕ) (i : ℕ) {r w : List ℕ} {n at : ℕ} → n ≡ row_bits inst → at ≡ i * n → r ≡ drop at idx → w ≡ drop at wh
-    → filter_of inst (tab (var bits r w) n) ≡ stream_bit inst bits idx wh i
-unfolding stream_bit row_bit
-bit_is inst bits idx wh i e a p q = rw (p, q, a, e)
+-- a part of n places shows what stands there
+pub part_at : (l : List ℕ) (at n end j : ℕ) → end ≡ at + n → j < n → get_or (take (end - at) (drop at l)) j 0 ≡ get_or (drop at l) j 0
+part_at l at n end j e h = let m : end - at ≡ n = omega arith in rw m (get_or-take n (drop at l) j 0 h)
+
+-- and no more than that
+pub part_below : (l : List ℕ) (at n end j m : ℕ) → end ≡ at + n → j < length (take (end - at) (drop at l)) → (j < n → get_or l (at + j) 0 < m)
+    → get_or (take (end - at) (drop at l)) j 0 < m
+part_below l at n end j m e h f =
+    let k : j < n = omega (arith, length-take (end - at) (drop at l)) in
+    rw (part_at l at n end j e k, get_or-drop at l j 0) (f k)
+
+-- parts of two lists at the same places
+pub parts-length : (k l : List ℕ) (at n end : ℕ) → end ≡ at + n → end ≤ length k → end ≤ length l
+    → length (take (end - at) (drop at k)) ≡ length (take (end - at) (drop at l))
+parts-length k l at n end e g h =
+    omega (arith, length-take (end - at) (drop at k), length-drop at k, length-take (end - at) (drop at l), length-drop at l)
+
+-- a keystream bit over row i of the lists
+pub bit_is : (inst : ℕ) (bits idx wh : List ℕ) (i n at end : ℕ) → n ≡ row_bits inst → at ≡ i * n → end ≡ at + n
+    → filter_of inst (tab (var bits (take (end - at) (drop at idx)) (take (end - at) (drop at wh))) n) ≡ stream_bit inst bits idx wh i
+unfolding stream_bit row_bit var
+bit_is inst bits idx wh i n at end e a p =
+    let f : ℕ → ℕ = var bits (take (end - at) (drop at idx)) (take (end - at) (drop at wh)) in
+    let g : ℕ → ℕ = var bits (drop at idx) (drop at wh) in
+    let same : (j : ℕ) → j < n → f j ≡ g j = λ j h. rw (part_at idx at n end j p h, part_at wh at n end j p h) refl in
+    ap (filter_of inst) (tab-same f g n same) ∙ rw (a, e) refl
 
 -- place j of row i is one of the m rows' places
 pub within : (i m n j : ℕ) {k : ℕ} → n ≡ k → i < m → j < n → i * n + j < m * k

@@ -1,6 +1,6 @@
 -- Keystream and enciphering of the six instances.
+use Rattle.answer.specs.Answers.{Answer}
 use Rattle.std.specs.Prelude.{ℕ, ◌≡◌, List, length, eqb}
-use Rattle.answer.specs.declared.Answer.{Answer}
 use Rattle.answer.specs.Bits.{added}
 use Rattle.answer.specs.Choose.{choose}
 use Rattle.answer.specs.Fronts.{left}

@@ -2,6 +2,7 @@
 // After judging, no branch and no index depends on a bit of the key or of the record.
 #![tactic(auto)]
 
+pub mod bytes;
 mod rows;
 mod stream;
 
@@ -22,7 +23,13 @@ fn put_stream(instance: u32, key: &[u8], indices: &[u32], whitening: &[u8], out:
     if instance == 6 {
         stream::put(key, whitening, out);
     } else {
-        rows::put_rows(instance, key, indices, whitening, out);
+        let lent = rows::Rows {
+            instance,
+            key,
+            indices,
+            whitening,
+        };
+        lent.put_all(out);
     }
 }
 
@@ -31,14 +38,13 @@ fn add(record: &[u8], out: &mut [u8])
     requires { length «record».now ≤ length out.old }
     ensures { out.new ≡ over (added «record».now (take (length «record».now) out.old)) out.old }
 {
-    let mut i: usize = 0;
-    while i < record.len() {
-        out[i] = (record[i] % 2 + out[i] % 2) % 2;
-        i += 1;
+    for (i, &r) in record.iter().enumerate() {
+        out[i] = (r % 2 + out[i] % 2) % 2;
     }
 }
 
-// The first m keystream bits. whitening is the IV for Kreyvium.
+// The first m keystream bits. whitening is the IV for Kreyvium. A public call takes the lists that docs/RULES.md, "The
+// calls", gives it, each a parameter; `with_filter` and `with_kreyvium` take them over before they are judged.
 pub fn keystream(
     instance: u32,
     m: u32,
@@ -49,13 +55,10 @@ pub fn keystream(
 ) -> Answer
     ensures { Streamed instance m key.now indices.now whitening.now res.old result res.new }
 {
-    let r = judging::keystream(instance, m, key, indices, whitening, res.len());
-    let Answer::Done = r else {
-        return r;
-    };
+    judging::keystream(instance, m, key, indices, whitening, res.len())?;
     let n = m as usize;
     put_stream(instance, key, indices, whitening, &mut res[..n]);
-    Answer::Done
+    Ok(())
 }
 
 // A record enciphered with a filter: each bit is added to the keystream bit at its place.
@@ -70,14 +73,11 @@ fn with_filter(
 ) -> Answer
     ensures { Ciphered instance m key.now «record».now indices.now whitening.now res.old result res.new }
 {
-    let r = judging::encipher(instance, m, key, record, indices, whitening, res.len());
-    let Answer::Done = r else {
-        return r;
-    };
+    judging::encipher(instance, m, key, record, indices, whitening, res.len())?;
     let n = m as usize;
     put_stream(instance, key, indices, whitening, &mut res[..n]);
     add(record, res);
-    Answer::Done
+    Ok(())
 }
 
 // The same with Kreyvium, so fast that going through the code for rows would be felt. Key and IV are packed here, as
@@ -92,18 +92,16 @@ fn with_kreyvium(
 ) -> Answer
     ensures { Ciphered 6 m key.now «record».now indices.now iv.now res.old result res.new }
 {
-    let r = judging::kreyvium(m, key, record, indices, iv, res.len());
-    let Answer::Done = r else {
-        return r;
-    };
+    judging::kreyvium(m, key, record, indices, iv, res.len())?;
     let k0 = stream::key_word(key, 0);
     let k1 = stream::key_word(key, 64);
-    let v0 = stream::word(iv, 0);
-    let v1 = stream::word(iv, 64);
+    let iv = stream::Bits { list: iv };
+    let v0 = iv.word(0);
+    let v1 = iv.word(64);
     let n = m as usize;
     stream::put_front(kreyvium::stream64(k0, k1, v0, v1), &mut res[..n]);
     add(record, res);
-    Answer::Done
+    Ok(())
 }
 
 // A record of m bits, each added to the keystream bit at its place.

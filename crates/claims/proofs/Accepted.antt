@@ -1,4 +1,4 @@
--- Acceptance of the calls: what the rules let a caller lend, with room for the result, is answered with Done, and the
+-- Acceptance of the calls: what the rules let a caller lend, with room for the result, is done, and the
 -- result stands at the front of its list.
 use Prim.Native.Nat.{ℕ, zero, suc, ◌+◌, ◌*◌, ◌%◌, ◌<◌, ◌≤◌}
 use mathlib.Core.Path.{◌≡◌, sym, ap, ◌∙◌}
@@ -7,8 +7,8 @@ use native.Mathlib.Nat.{mul-zero, mod-lt}
 use native.Mathlib.Omega.{arith}
 use lib.Arith.{digits_lt, digits_mod}
 use lib.ListN.{length, get_or, take}
-use Rattle.answer.specs.declared.Answer.{Answer}
-use Rattle.answer.specs.declared.Answer.TheVariants.{Done}
+use Rattle.std.specs.Prelude.{Ok}
+use Rattle.answer.specs.Answers.{Answer}
 use Rattle.answer.specs.Fronts.{over, left}
 use Rattle.answer.proofs.Over.{take-over, made}
 use Rattle.netlist.specs.Words.{words}
@@ -81,8 +81,8 @@ some_draws inst least most =
 
 -- ---- what the calls answer and leave
 
--- a call that is due Done, and what stands at the front of what it left
-gives : {r due : Answer} (new old : List ℕ) {out : List ℕ} → r ≡ due → due ≡ Done → out ≡ left r new old → (r ≡ Done) × (out ≡ over new old)
+-- a call that is due (Ok tt), and what stands at the front of what it left
+gives : {r due : Answer} (new old : List ℕ) {out : List ℕ} → r ≡ due → due ≡ Ok tt → out ≡ left r new old → (r ≡ Ok tt) × (out ≡ over new old)
 gives new old a d w =
     let e = a ∙ d in
     (e, w ∙ sym (made new old e))
@@ -91,23 +91,23 @@ pub front_of : (new old : List ℕ) (n : ℕ) {out : List ℕ} → length new �
 front_of new old n e w = ap (take n) w ∙ ap (λ (k : ℕ). take k (over new old)) (sym e) ∙ take-over new old
 
 pub choose_gives : (inst : ℕ) (draws row : List ℕ) {r : Answer} {row' : List ℕ} → Drawn inst draws → row_bits inst ≤ length row
-    → Chosen inst draws row r row' → (r ≡ Done) × (row' ≡ over (row_of inst draws) row)
+    → Chosen inst draws row r row' → (r ≡ Ok tt) × (row' ≡ over (row_of inst draws) row)
 choose_gives inst draws row d h x = gives _ row x.answered (choose_accepted inst draws (length row) d h) x.written
 
 module _ (inst m : ℕ) (idx wh : List ℕ) (wired : Wired inst m idx wh) where
   pub emit_gives : (out : List ℕ) {r : Answer} {out' : List ℕ} → length (words (decipher_net inst m idx wh)) ≤ length out
       → Emitted (decipher_answer inst m idx wh (length out)) (decipher_net inst m idx wh) out r out'
-      → (r ≡ Done) × (out' ≡ over (words (decipher_net inst m idx wh)) out)
+      → (r ≡ Ok tt) × (out' ≡ over (words (decipher_net inst m idx wh)) out)
   emit_gives out h x = gives _ out x.answered (decipher_accepted inst m idx wh (length out) wired h) x.written
 
   module _ (key : List ℕ) (keyed : Keyed inst key) where
     pub keystream_gives : (out : List ℕ) {r : Answer} {out' : List ℕ} → m ≤ length out → Streamed inst m key idx wh out r out'
-        → (r ≡ Done) × (out' ≡ over (keystream_of inst m (key_in inst key) idx wh) out)
+        → (r ≡ Ok tt) × (out' ≡ over (keystream_of inst m (key_in inst key) idx wh) out)
     keystream_gives out h x = gives _ out x.answered (keystream_accepted inst m key idx wh (length out) wired keyed h) x.written
 
     -- enciphering and deciphering
     pub encipher_gives : (rec out : List ℕ) {r : Answer} {out' : List ℕ} → Bits m rec → m ≤ length out → Ciphered inst m key rec idx wh out r out'
-        → (r ≡ Done) × (out' ≡ over (encipher_of inst m (key_in inst key) rec idx wh) out)
+        → (r ≡ Ok tt) × (out' ≡ over (encipher_of inst m (key_in inst key) rec idx wh) out)
     encipher_gives rec out b h x =
         gives _ out x.answered (encipher_accepted inst m key rec idx wh (length out) wired keyed b h) x.written
 

@@ -12,7 +12,7 @@ use Rattle.daemon.proofs.Numbers.{done_zero}
 use Rattle.daemon.proofs.Counted.{as_cipher, cipher_accepted}
 use Rattle.claims.proofs.Demands.{ciphering_back}
 
--- What `ciphering_back` says, of a call whose answer is one number, 0 for Done.
+-- What `ciphering_back` says, of a call whose answer is one number, 0 for done.
 pub kreyvium_back : (m : ℕ) (key rec iv out back : List ℕ) {q r : ℕ} {c d : List ℕ}
     → 1 ≤ m → m ≤ 64 → Keyed 6 key → Bits m rec → Bits 128 iv → m ≤ length out → m ≤ length back
     → Enciphered m key rec iv out q c → Enciphered m key (take m c) iv back r d

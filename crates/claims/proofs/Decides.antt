@@ -4,8 +4,9 @@ use mathlib.Core.Path.{◌≡◌, sym, ap, ◌∙◌}
 use mathlib.Core.List.{List}
 use native.Mathlib.Omega.{arith}
 use lib.ListN.{length}
-use Rattle.answer.specs.declared.Answer.{Answer}
-use Rattle.answer.specs.Answers.{if_done}
+use Rattle.std.specs.Prelude.{Option, Result}
+use Rattle.answer.specs.declared.Refusal.{Refusal}
+use Rattle.answer.specs.Answers.{Answer, if_done}
 use Rattle.answer.specs.Fronts.{left}
 use Rattle.netlist.specs.Net.{Net, depth, mults}
 use Rattle.netlist.specs.Words.{net_of}
@@ -24,8 +25,7 @@ use Rattle.kreyvium.specs.Kreyvium.{Registers, out_of, rounds, stream, stream_of
 use Rattle.kreyvium.specs.Words.{tops, state_of}
 use Rattle.kreyvium.proofs.Bits.{tops_decide}
 use Rattle.port.specs.declared.Port.{Port}
-use Rattle.port.specs.declared.Made.{Made}
-use Rattle.port.specs.declared.Found.{Found}
+use Rattle.port.specs.declared.Field.{Field}
 use Rattle.port.specs.Layout.{port_of, port_made, fields_answer, found_by, BitsWritten}
 use Rattle.sequence.specs.Files.{file_answer}
 use Rattle.frames.specs.Frames.{Appended, AppendedAfter, FramesRead}
@@ -37,10 +37,9 @@ use Rattle.cells.specs.Cells.{one_hot_net, threshold_net}
 use Rattle.records.specs.declared.form.Form.{Form}
 use Rattle.records.specs.File.{check_answer}
 use Rattle.file.specs.File.{ReadAs, WrittenAs}
-use Rattle.line.specs.declared.Asked.{Asked}
+use Rattle.line.specs.declared.Line.{Line}
 use Rattle.line.specs.Asked.{asked_of}
-use Rattle.text.specs.declared.Printing.{Printing}
-use Rattle.text.specs.Text.{printed, Printed}
+use Rattle.text.specs.Text.{Printed}
 use Rattle.rounds.specs.Gates.{kreyvium_net}
 use Rattle.register.specs.Judging.{emit_kreyvium_answer}
 use Rattle.emit.specs.declared.Size.{Size}
@@ -126,7 +125,7 @@ pub emit_kreyvium_decides : (m : ℕ) (iv out : List ℕ) {r s : Answer} {v w : 
     → (r ≡ s) × (v ≡ w)
 emit_kreyvium_decides m iv out x y = emitted_decides out x y
 
-pub decipher_size_decides : (inst m : ℕ) (idx wh : List ℕ) {r s : Size}
+pub decipher_size_decides : (inst m : ℕ) (idx wh : List ℕ) {r s : Result Size Refusal}
     → r ≡ sized_by (wiring_answer inst m idx wh) (decipher_net inst m idx wh) → s ≡ sized_by (wiring_answer inst m idx wh) (decipher_net inst m idx wh) → r ≡ s
 decipher_size_decides inst m idx wh p q = equation_decides (sized_by (wiring_answer inst m idx wh) (decipher_net inst m idx wh)) p q
 
@@ -145,16 +144,10 @@ pub check_file_decides : (form : Form) (source : List ℕ) {r s : Answer} → r 
 check_file_decides form source p q = equation_decides (check_answer form source) p q
 
 -- the printing program's text
-pub print_decides : (input out : List ℕ) {r s : Printing} {v w : List ℕ} → Printed input out r v → Printed input out s w → (r ≡ s) × (v ≡ w)
-print_decides input out {r} {s} x y =
-    let p = x.answered ∙ sym y.answered in
-    let q = x.sized ∙ ap (λ (t : Answer). if_done t (length (printed input))) p ∙ sym y.sized in
-    (printing_eq r s p q, same_left _ _ p x.written y.written)
-  where
-    printing_eq : (r s : Printing) → r.answer ≡ s.answer → r.size ≡ s.size → r ≡ s
-    printing_eq r s p q i = record { answer = p i; size = q i }
+pub print_decides : (input out : List ℕ) {r s : Result ℕ Refusal} {v w : List ℕ} → Printed input out r v → Printed input out s w → (r ≡ s) × (v ≡ w)
+print_decides input out x y = (x.answered ∙ sym y.answered, x.written ∙ sym y.written)
 
-pub parse_decides : (input : List ℕ) {r s : Asked} → r ≡ asked_of input → s ≡ asked_of input → r ≡ s
+pub parse_decides : (input : List ℕ) {r s : Option Line} → r ≡ asked_of input → s ≡ asked_of input → r ≡ s
 parse_decides input p q = equation_decides (asked_of input) p q
 
 -- Kreyvium's words of keystream: 64 bits, the first the highest
@@ -225,10 +218,10 @@ pub frames_check_decides : (s : List ℕ) {r q : Answer} → r ≡ file_answer 1
 frames_check_decides s p q = equation_decides (file_answer 1 s) p q
 
 -- a port's fields
-pub made_decides : (a b c d e : ℕ) {r s : Made} → r ≡ port_made a b c d e → s ≡ port_made a b c d e → r ≡ s
+pub made_decides : (a b c d e : ℕ) {r s : Result Port Field} → r ≡ port_made a b c d e → s ≡ port_made a b c d e → r ≡ s
 made_decides a b c d e p q = equation_decides (port_made a b c d e) p q
 
-pub fields_decides : (b : List ℕ) {r s : Found} → r ≡ found_by (fields_answer b) (port_of b) → s ≡ found_by (fields_answer b) (port_of b) → r ≡ s
+pub fields_decides : (b : List ℕ) {r s : Result Port Refusal} → r ≡ found_by (fields_answer b) (port_of b) → s ≡ found_by (fields_answer b) (port_of b) → r ≡ s
 fields_decides b p q = equation_decides (found_by (fields_answer b) (port_of b)) p q
 
 pub bits_decides : (p : Port) (out : List ℕ) {r s : Answer} {v w : List ℕ} → BitsWritten p out r v → BitsWritten p out s w → (r ≡ s) × (v ≡ w)

@@ -1,5 +1,5 @@
 -- The request's demands, sentence by sentence, of the calls' own promises. What is lent is any wiring, key and record that the
--- rules let a caller lend, and room for each result: that the calls answer Done is said, not supposed. docs/CLAIMS.md has the
+-- rules let a caller lend, and room for each result: that the calls are done is said, not supposed. docs/CLAIMS.md has the
 -- sentences beside these theorems.
 use Prim.Native.Nat.{ℕ, ◌+◌, ◌-◌, ◌*◌, ◌/◌, ◌<◌, ◌≤◌}
 use mathlib.Core.Bool.{not}
@@ -8,8 +8,10 @@ use mathlib.Core.List.{List, ◌++◌}
 use native.Mathlib.Omega.{arith}
 use lib.ListN.{length, get_or, take}
 use borrow.Author.Tests.{eq-eqb, le-ltb}
-use Rattle.answer.specs.declared.Answer.{Answer}
-use Rattle.answer.specs.declared.Answer.TheVariants.{Done, Refused}
+use Rattle.std.specs.Prelude.{Ok}
+use Rattle.answer.specs.declared.Reason.{Reason}
+use Rattle.answer.specs.declared.Reason.TheVariants as reasons
+use Rattle.answer.specs.Answers.{Answer, refused}
 use Rattle.answer.specs.Bits.{added}
 use Rattle.answer.specs.Fronts.{over, left}
 use Rattle.answer.proofs.Rows.{both, refuse_not}
@@ -61,8 +63,8 @@ use Rattle.claims.proofs.Metering.{meter_accepts, depth_is, mults_is}
 -- it leaves one outcome alone.
 
 -- Nothing lent changes where a call refuses: what its promise then leaves is what was lent.
-pub refused_unchanged : {X : Type 0} {r : Answer} {number list place : ℕ} (new old : List X) {left' : List X}
-    → r ≡ Refused number list place → left' ≡ left r new old → left' ≡ old
+pub refused_unchanged : {X : Type 0} {r : Answer} {reason : Reason} {list place : ℕ} (new old : List X) {left' : List X}
+    → r ≡ refused reason list place → left' ≡ left r new old → left' ≡ old
 refused_unchanged new old e w = w ∙ sym (kept new old e)
 
 -- ---- Demand 2
@@ -76,14 +78,14 @@ module _ (inst m : ℕ) (key idx wh out : List ℕ) (wired : Wired inst m idx wh
   abbrev ks : List ℕ
   ks = keystream_of inst m bits idx wh
 
-  stream-left : (r ≡ Done) × (out' ≡ over ks out)
+  stream-left : (r ≡ Ok tt) × (out' ≡ over ks out)
   stream-left = keystream_gives inst m idx wh wired key keyed out space s
 
   stream-bit : (t : ℕ) → t < m → get_or out' t 0 ≡ get_or ks t 0
   stream-bit t h =
       ap (λ (l : List ℕ). get_or l t 0) stream-left.1 ∙ over-at ks out t (omega (arith, keystream_length inst m bits idx wh))
 
-  pub keystream_published : (r ≡ Done) × AsPublished inst m (key_in inst key) idx wh out'
+  pub keystream_published : (r ≡ Ok tt) × AsPublished inst m (key_in inst key) idx wh out'
   keystream_published = (
     stream-left.0,
     record {
@@ -101,7 +103,7 @@ module _ (inst m : ℕ) (key idx wh out : List ℕ) (wired : Wired inst m idx wh
 pub ciphering_back : (inst m : ℕ) (key rec idx wh out back : List ℕ) {q r : Answer} {c d : List ℕ}
     → Wired inst m idx wh → Keyed inst key → Bits m rec → m ≤ length out → m ≤ length back
     → Ciphered inst m key rec idx wh out q c → Ciphered inst m key (take m c) idx wh back r d
-    → (q ≡ Done) × (r ≡ Done) × (d ≡ over rec back)
+    → (q ≡ Ok tt) × (r ≡ Ok tt) × (d ≡ over rec back)
 unfolding encipher_of
 ciphering_back inst m key rec idx wh out back {q} {r} {c} {d} w k b h g x y =
     let K = key_in inst key in
@@ -123,7 +125,7 @@ pub emitted_deciphers : (inst m : ℕ) (key rec idx wh out back vals outs : List
     → Emitted (decipher_answer inst m idx wh (length out)) (decipher_net inst m idx wh) out q out'
     → Ciphered inst m key rec idx wh back r back'
     → Evaluated (take (length (net_words inst m idx wh)) out') (key_in inst key ++ rec) vals outs t vals' outs'
-    → (q ≡ Done) × (r ≡ Done) × (t ≡ Done) × (take m outs' ≡ take m back')
+    → (q ≡ Ok tt) × (r ≡ Ok tt) × (t ≡ Ok tt) × (take m outs' ≡ take m back')
 emitted_deciphers inst m key rec idx wh out back vals outs w k b hn hb hv ho x c v =
     let e = emitted_gives inst m idx wh w key rec k b out vals outs hn hv ho x v in
     let g = encipher_gives inst m idx wh w key k rec back b hb c in
@@ -138,8 +140,8 @@ pub emitted_metered : (inst m : ℕ) (idx wh out ds : List ℕ) (ls : List Level
     → inputs_of (net_words inst m idx wh) + gates_of (net_words inst m idx wh) ≤ length ds → level_count (decipher_net inst m idx wh) ≤ length ls
     → Emitted (decipher_answer inst m idx wh (length out)) (decipher_net inst m idx wh) out q out'
     → MeteredAs (take (length (net_words inst m idx wh)) out') ds ls r ds' ls'
-    → (q ≡ Done)
-    × (r.answer ≡ Done)
+    → (q ≡ Ok tt)
+    × (r.answer ≡ Ok tt)
     × (inst ≤ 5 → (r.depth ≡ (cost_of inst).depth) × (r.multiplications ≡ m * (cost_of inst).mults))
     × (inst ≡ 6 → (r.depth ≤ (1087 + (m - 1) + 81) / 82) × (r.multiplications ≡ 3 * (1152 + m)))
 emitted_metered inst m idx wh out ds ls {q} {r} {out'} {ds'} {ls'} wired hn hd hl x y =
@@ -179,7 +181,7 @@ pub glued_answers : (a b out x vals outs vals₂ outs₂ vals₃ outs₃ : List 
     → Evaluated a x vals outs r vals' outs'
     → Evaluated b (take (outputs_of a) outs') vals₂ outs₂ s vals₂' outs₂'
     → Evaluated (take (length (glued_words a b)) out') x vals₃ outs₃ t vals₃' outs₃'
-    → (q ≡ Done) × (r ≡ Done) × (s ≡ Done) × (t ≡ Done) × (take (outputs_of b) outs₃' ≡ take (outputs_of b) outs₂')
+    → (q ≡ Ok tt) × (r ≡ Ok tt) × (s ≡ Ok tt) × (t ≡ Ok tt) × (take (outputs_of b) outs₃' ≡ take (outputs_of b) outs₂')
 glued_answers a b out x vals outs vals₂ outs₂ vals₃ outs₃ f bits hv ho hv₂ ho₂ hv₃ ho₃ g u v w =
     let n = length out in
     let G = glued_words a b in
@@ -196,7 +198,7 @@ glued_answers a b out x vals outs vals₂ outs₂ vals₃ outs₃ f bits hv ho h
 -- Depth is at most the sum of the two depths; multiplications are exactly the sum.
 pub glued_metered : (a b : List ℕ) (n : ℕ) {r s t : Metered} → Fit a b n
     → MeterCall a r → MeterCall b s → MeterCall (glued_words a b) t
-    → (r.answer ≡ Done) × (s.answer ≡ Done) × (t.answer ≡ Done)
+    → (r.answer ≡ Ok tt) × (s.answer ≡ Ok tt) × (t.answer ≡ Ok tt)
     × (t.depth ≤ r.depth + s.depth) × (t.multiplications ≡ r.multiplications + s.multiplications)
 glued_metered a b n {r} {s} {t} f x y z =
     let g = glued_sound a b n f in (
@@ -209,13 +211,13 @@ glued_metered a b n {r} {s} {t} f x y z =
 
 -- Gluing three gives the same words in either grouping: both are accepted with the same room.
 pub three_glued : (a b c : List ℕ) (n : ℕ) → FitThree a b c n
-    → (glue_answer (glued_words a b) c n ≡ Done) × (glue_answer a (glued_words b c) n ≡ Done) × (glued_words (glued_words a b) c ≡ glued_words a (glued_words b c))
+    → (glue_answer (glued_words a b) c n ≡ Ok tt) × (glue_answer a (glued_words b c) n ≡ Ok tt) × (glued_words (glued_words a b) c ≡ glued_words a (glued_words b c))
 three_glued a b c n t = (front-first a b c n t, back-first a b c n t, grouping a b c n t)
 
 -- A pass-through, where one fits the output limit, changes no word, before a netlist and after it: gluing accepts it.
 pub pass_changes_nothing : (a : List ℕ) → Sound a
-    → (inputs_of a ≤ output_limit → (glue_answer (words (pass (inputs_of a))) a (length a) ≡ Done) × (glued_words (words (pass (inputs_of a))) a ≡ a))
-    × ((glue_answer a (words (pass (outputs_of a))) (length a) ≡ Done) × (glued_words a (words (pass (outputs_of a))) ≡ a))
+    → (inputs_of a ≤ output_limit → (glue_answer (words (pass (inputs_of a))) a (length a) ≡ Ok tt) × (glued_words (words (pass (inputs_of a))) a ≡ a))
+    × ((glue_answer a (words (pass (outputs_of a))) (length a) ≡ Ok tt) × (glued_words a (words (pass (outputs_of a))) ≡ a))
 pass_changes_nothing a s = (λ h. pass_before a s h, pass_after a s)
 
 -- So a score from the enciphered record equals the score from the plain one. encipher leaves the enciphered record, emit_decipher
@@ -238,7 +240,7 @@ module _ (inst m : ℕ) (key rec idx wh : List ℕ) (wired : Wired inst m idx wh
       → GluedAs (take (length W) out') score glued c glued'
       → Evaluated (take (length (glued_words W score)) glued') (K ++ take m enc') vals outs d vals' outs'
       → Evaluated score rec vals₂ outs₂ e vals₂' outs₂'
-      → (a ≡ Done) × (b ≡ Done) × (c ≡ Done) × (d ≡ Done) × (e ≡ Done) × (take (outputs_of score) outs' ≡ take (outputs_of score) outs₂')
+      → (a ≡ Ok tt) × (b ≡ Ok tt) × (c ≡ Ok tt) × (d ≡ Ok tt) × (e ≡ Ok tt) × (take (outputs_of score) outs' ≡ take (outputs_of score) outs₂')
   score_of_calls score enc out glued vals outs vals₂ outs₂ {a} {b} {c} {d} {e} {enc'} {out'} {glued'} {vals'} {outs'} {vals₂'} {outs₂'} s he hn hg hv ho hv₂ ho₂ x y z v u =
       let sealed = encipher_of inst m K rec idx wh in
       let G = glued_words W score in
@@ -262,12 +264,12 @@ module _ (inst m : ℕ) (key rec idx wh : List ℕ) (wired : Wired inst m idx wh
       → m ≤ length enc → length W ≤ length out → glued_size W score ≤ length glued → key_bits inst + m ≤ length inp
       → key_bits inst + m + (gates_of W + gates_of score) ≤ length vals → outputs_of score ≤ length outs
       → Scored inst m key rec idx wh score enc out glued inp vals outs r enc' out' glued' inp' vals' outs'
-      → (r ≡ Done) × (take (outputs_of score) outs' ≡ eval (net_of score) rec)
+      → (r ≡ Ok tt) × (take (outputs_of score) outs' ≡ eval (net_of score) rec)
   unfolding score_answer results_answer rooms_answer
   path_scores score enc out glued inp vals outs {r} {enc'} {out'} {glued'} {inp'} {vals'} {outs'} s he hd hg hi hv ho x =
       let rooms = both (done_room 6 _ _ he) (both (done_room 7 _ _ hd) (both (done_room 8 _ _ hg) (both (done_room 9 _ _ hi) (both (done_room 10 _ _ hv) (done_room 11 _ _ ho))))) in
-      let fits = both (refuse_not 10 0 0 (ap not (eq-eqb m _ (sym s.inputs)))) (refuse_not 11 0 0 (le-ltb _ _ s.few)) in
-      let e : r ≡ Done =
+      let fits = both (refuse_not reasons.Fit 0 0 (ap not (eq-eqb m _ (sym s.inputs)))) (refuse_not reasons.Gates 0 0 (le-ltb _ _ s.few)) in
+      let e : r ≡ Ok tt =
       x.answered
       ∙ both (encipher_accepted inst m key rec idx wh m wired keyed bits (omega arith)) (both (sound_done 5 score s.sound) (both rooms fits)) in
       (e, front_of _ outs (outputs_of score) (outputs_count score rec s.sound) (x.scores ∙ sym (made _ _ e)))

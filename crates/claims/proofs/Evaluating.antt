@@ -4,7 +4,7 @@ use mathlib.Core.Path.{◌≡◌, ◌∙◌}
 use mathlib.Core.List.{List}
 use native.Mathlib.Omega.{arith}
 use lib.ListN.{length, get_or, length-map}
-use Rattle.answer.specs.declared.Answer.TheVariants.{Done}
+use Rattle.std.specs.Prelude.{Ok}
 use Rattle.answer.proofs.Judges.{bits-within}
 use Rattle.netlist.specs.Net.{at, run, val_alg, eval}
 use Rattle.netlist.specs.Words.{inputs_of, gates_of, outputs_of, net_of}
@@ -17,7 +17,7 @@ use Rattle.glue.proofs.Gluing.{fitting, glued_sound, glued_gates, glued_outputs}
 
 module _ (a b : List ℕ) (n : ℕ) (f : Fit a b n) where
   pub glued_ready : (x : List ℕ) (v o : ℕ) → length x ≡ inputs_of a → ((k : ℕ) → k < length x → get_or x k 0 ≤ 1)
-      → inputs_of a + (gates_of a + gates_of b) ≤ v → outputs_of b ≤ o → evaluate_answer (glued_words a b) x v o ≡ Done
+      → inputs_of a + (gates_of a + gates_of b) ≤ v → outputs_of b ≤ o → evaluate_answer (glued_words a b) x v o ≡ Ok tt
   glued_ready x v o e h hv ho =
       ready_done (glued_words a b) x v o
       record {
@@ -29,7 +29,7 @@ module _ (a b : List ℕ) (n : ℕ) (f : Fit a b n) where
       }
 
   pub second_ready : (x : List ℕ) (v o : ℕ) → ((k : ℕ) → k < length x → get_or x k 0 ≤ 1)
-      → inputs_of b + gates_of b ≤ v → outputs_of b ≤ o → evaluate_answer b (eval (net_of a) x) v o ≡ Done
+      → inputs_of b + gates_of b ≤ v → outputs_of b ≤ o → evaluate_answer b (eval (net_of a) x) v o ≡ Ok tt
   second_ready x v o h hv ho =
       let wire = at val_alg (run val_alg x (net_of a).gates) in
       ready_done b (eval (net_of a) x) v o

@@ -5,8 +5,8 @@ use mathlib.Core.Path.{◌≡◌, sym, ap, ◌∙◌}
 use mathlib.Core.List.{List, [], ◌++◌}
 use native.Mathlib.Omega.{arith}
 use lib.ListN.{length, take}
-use Rattle.answer.specs.declared.Answer.{Answer}
-use Rattle.answer.specs.declared.Answer.TheVariants.{Done}
+use Rattle.std.specs.Prelude.{Ok}
+use Rattle.answer.specs.Answers.{Answer}
 use Rattle.answer.proofs.Over.{made}
 use Rattle.netlist.specs.Net.{eval}
 use Rattle.netlist.specs.Words.{inputs_of, gates_of, words}
@@ -40,7 +40,7 @@ wired iv v = kreyvium_wired 64 iv (omega arith) (omega arith) (bits_of_lem 128 i
 
 -- `append` accepts what may be lent to it, and the frame holds the enciphered record
 appended : (key rec iv s out : List ℕ) {r : Answer} {out' : List ℕ} → AppendLent key rec iv s (length out) → Appended key rec iv s out r out'
-    → (r ≡ Done) × (unpacked out' 18 64 ≡ encipher_of 6 64 (key_in 6 key) rec [] iv)
+    → (r ≡ Ok tt) × (unpacked out' 18 64 ≡ encipher_of 6 64 (key_in 6 key) rec [] iv)
 appended key rec iv s out l a =
     let e = a.answered ∙ lent-append key rec iv s (length out) l in
     (e, ap (λ (x : List ℕ). unpacked x 18 64) (a.written ∙ sym (made _ _ e)) ∙ frame_sealed (key_in 6 key) rec iv out l.record_bits.size)
@@ -48,7 +48,7 @@ appended key rec iv s out l a =
 -- what `encipher` gives on the same record stands in the frame, packed
 pub frame_enciphers : (key rec iv s out enc : List ℕ) {q r : Answer} {out' enc' : List ℕ} → AppendLent key rec iv s (length out) → 64 ≤ length enc
     → Appended key rec iv s out q out' → Ciphered 6 64 key rec [] iv enc r enc'
-    → (q ≡ Done) × (r ≡ Done) × (unpacked out' 18 64 ≡ take 64 enc')
+    → (q ≡ Ok tt) × (r ≡ Ok tt) × (unpacked out' 18 64 ≡ take 64 enc')
 frame_enciphers key rec iv s out enc l h a c =
     let e = encipher_of 6 64 (key_in 6 key) rec [] iv in
     let f = appended key rec iv s out l a in
@@ -88,7 +88,7 @@ module _ (key s : List ℕ) (k : ℕ) (b : Keyed 6 key) where
       → length net_words ≤ length out → inputs_of net_words + gates_of net_words ≤ length vals → 64 ≤ length outs
       → Emitted (decipher_answer 6 64 [] iv (length out)) (decipher_net 6 64 [] iv) out r out'
       → Evaluated (take (length net_words) out') (key_in 6 key ++ sealed) vals outs t vals' outs'
-      → (r ≡ Done) × (t ≡ Done) × (take 64 outs' ≡ record_in (key_in 6 key) s k)
+      → (r ≡ Ok tt) × (t ≡ Ok tt) × (take 64 outs' ≡ record_in (key_in 6 key) s k)
   unfolding record_in
   frame_netlist out vals outs h hv ho m v =
       emitted_gives 6 64 [] iv (wired iv iv-bits) key sealed b (bits_of_lem 64 sealed sealed_list) out vals outs h hv ho m v
@@ -96,7 +96,7 @@ module _ (key s : List ℕ) (k : ℕ) (b : Keyed 6 key) where
 -- So the frame that `append` left is deciphered by the netlist of its IV: on the key and the frame's 64 bits it gives the
 -- record.
 pub appended_deciphered : (key rec iv s out : List ℕ) {r : Answer} {out' : List ℕ} → AppendLent key rec iv s (length out) → Appended key rec iv s out r out'
-    → (r ≡ Done) × (eval (decipher_net 6 64 [] iv) (key_in 6 key ++ unpacked out' 18 64) ≡ rec)
+    → (r ≡ Ok tt) × (eval (decipher_net 6 64 [] iv) (key_in 6 key ++ unpacked out' 18 64) ≡ rec)
 appended_deciphered key rec iv s out l a =
     let bits = key_in 6 key in
     let e = encipher_of 6 64 bits rec [] iv in

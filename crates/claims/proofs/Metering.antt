@@ -2,7 +2,7 @@
 use Prim.Native.Nat.{ℕ}
 use mathlib.Core.Path.{◌≡◌, sym, ◌∙◌}
 use mathlib.Core.List.{List}
-use Rattle.answer.specs.declared.Answer.TheVariants.{Done}
+use Rattle.std.specs.Prelude.{Ok}
 use Rattle.answer.proofs.Rows.{both, told}
 use Rattle.answer.proofs.Judges.{done_room}
 use Rattle.netlist.specs.Net.{depth, mults}
@@ -15,7 +15,7 @@ use Rattle.claims.specs.Demands.{MeterCall}
 
 module _ (net : List ℕ) (r : Metered) (s : Sound net) (m : MeterCall net r) where
   -- A sound netlist is accepted.
-  pub meter_accepts : r.answer ≡ Done
+  pub meter_accepts : r.answer ≡ Ok tt
   unfolding meter_answer depths_answer levels_answer
   meter_accepts =
       m.outcome.answered

@@ -2,7 +2,7 @@
 use Prim.Native.Nat.{ℕ}
 use mathlib.Core.Path.{◌≡◌, sym, ap, ◌∙◌}
 use mathlib.Core.List.{List}
-use Rattle.answer.specs.declared.Answer.{Answer}
+use Rattle.answer.specs.Answers.{Answer}
 use Rattle.netlist.specs.Net.{Net}
 use Rattle.meter.specs.declared.Level.{Level}
 use Rattle.records.specs.declared.form.Form.TheVariants.{Full}

@@ -1,13 +1,13 @@
 -- What calls in a row give: an emitted netlist evaluated, and a scoring netlist glued behind it and evaluated. The wiring, the
--- key and the record are any that the rules let a caller lend, and every list has room: that the calls answer Done is said, not
+-- key and the record are any that the rules let a caller lend, and every list has room: that the calls are done is said, not
 -- supposed.
 use Prim.Native.Nat.{ℕ, ◌+◌, ◌≤◌}
 use mathlib.Core.Path.{◌≡◌, refl, sym, ap, ◌∙◌}
 use mathlib.Core.List.{List, ◌++◌}
 use native.Mathlib.Omega.{arith}
 use lib.ListN.{length, take, length-map}
-use Rattle.answer.specs.declared.Answer.{Answer}
-use Rattle.answer.specs.declared.Answer.TheVariants.{Done}
+use Rattle.std.specs.Prelude.{Ok}
+use Rattle.answer.specs.Answers.{Answer}
 use Rattle.answer.proofs.Over.{made}
 use Rattle.netlist.specs.Net.{Net, at, run, val_alg, eval}
 use Rattle.netlist.specs.Words.{inputs_of, gates_of, outputs_of, net_of}
@@ -33,10 +33,10 @@ outputs_count net x s = length-map (net_of net).outs (at val_alg (run val_alg x 
 
 -- what evaluating a netlist on bits gives, where both are what stands in lists that other calls left
 pub outputs_front : (net net₀ x x₀ vals outs : List ℕ) (n : ℕ) {t : Answer} {vals' outs' : List ℕ} → net ≡ net₀ → x ≡ x₀ → length (eval (net_of net₀) x₀) ≡ n
-    → evaluate_answer net₀ x₀ (length vals) (length outs) ≡ Done → Evaluated net x vals outs t vals' outs'
-    → (t ≡ Done) × (take n outs' ≡ eval (net_of net₀) x₀)
+    → evaluate_answer net₀ x₀ (length vals) (length outs) ≡ Ok tt → Evaluated net x vals outs t vals' outs'
+    → (t ≡ Ok tt) × (take n outs' ≡ eval (net_of net₀) x₀)
 outputs_front net net₀ x x₀ vals outs n {t} p q l d v =
-    let e : t ≡ Done = v.answered ∙ rw (p, q) d in
+    let e : t ≡ Ok tt = v.answered ∙ rw (p, q) d in
     (e, front_of (eval (net_of net₀) x₀) outs n l (v.given ∙ sym (made _ _ e) ∙ rw (p, q)))
 
 module _ (inst m : ℕ) (idx wh : List ℕ) where
@@ -47,7 +47,7 @@ module _ (inst m : ℕ) (idx wh : List ℕ) where
     -- emit_decipher leaves the netlist's words at the front of its result
     pub words_left : (out : List ℕ) {r : Answer} {out' : List ℕ} → length W ≤ length out
         → Emitted (decipher_answer inst m idx wh (length out)) (decipher_net inst m idx wh) out r out'
-        → (r ≡ Done) × (take (length W) out' ≡ W)
+        → (r ≡ Ok tt) × (take (length W) out' ≡ W)
     words_left out h x =
         let g = emit_gives inst m idx wh wired out h x in
         (g.0, front_of W out (length W) refl g.1)
@@ -71,7 +71,7 @@ module _ (inst m : ℕ) (idx wh : List ℕ) where
       given = inputs_of_lem inst m key rec keyed bits
 
       -- the calls of evaluation: on the key and the record, and with a scoring netlist on the key and the enciphered record
-      pub decipher_ready : (v o : ℕ) → inputs_of W + gates_of W ≤ v → m ≤ o → evaluate_answer W (K ++ rec) v o ≡ Done
+      pub decipher_ready : (v o : ℕ) → inputs_of W + gates_of W ≤ v → m ≤ o → evaluate_answer W (K ++ rec) v o ≡ Ok tt
       decipher_ready v o hv ho =
           ready_done W (K ++ rec) v o
           record {
@@ -83,13 +83,13 @@ module _ (inst m : ℕ) (idx wh : List ℕ) where
           }
 
       pub score_ready : (score : List ℕ) (room v o : ℕ) → Fit W score room → inputs_of W + (gates_of W + gates_of score) ≤ v → outputs_of score ≤ o
-          → evaluate_answer (glued_words W score) (K ++ encipher_of inst m K rec idx wh) v o ≡ Done
+          → evaluate_answer (glued_words W score) (K ++ encipher_of inst m K rec idx wh) v o ≡ Ok tt
       score_ready score room v o f hv ho =
           let e = encipher_of inst m K rec idx wh in
           let b = enciphered inst m idx wh wired key keyed rec bits in
           glued_ready W score room f (K ++ e) v o (both_count inst m idx wh wired K e (inputs_of_lem inst m key e keyed b)) (bits-both K e given.key_bit b.bit) hv ho
 
-      pub plain_ready : (score : List ℕ) (v o : ℕ) → Scores inst m idx wh score → inputs_of score + gates_of score ≤ v → outputs_of score ≤ o → evaluate_answer score rec v o ≡ Done
+      pub plain_ready : (score : List ℕ) (v o : ℕ) → Scores inst m idx wh score → inputs_of score + gates_of score ≤ v → outputs_of score ≤ o → evaluate_answer score rec v o ≡ Ok tt
       plain_ready score v o s hv ho =
           ready_done score rec v o
           record { sound = s.sound; count = bits.size ∙ sym s.inputs; bits = bits.bit; values = hv; outputs = ho }
@@ -99,7 +99,7 @@ module _ (inst m : ℕ) (idx wh : List ℕ) where
           → length W ≤ length out → inputs_of W + gates_of W ≤ length vals → m ≤ length outs
           → Emitted (decipher_answer inst m idx wh (length out)) (decipher_net inst m idx wh) out q out'
           → Evaluated (take (length W) out') (K ++ rec) vals outs t vals' outs'
-          → (q ≡ Done) × (t ≡ Done) × (take m outs' ≡ encipher_of inst m K rec idx wh)
+          → (q ≡ Ok tt) × (t ≡ Ok tt) × (take m outs' ≡ encipher_of inst m K rec idx wh)
       emitted_gives out vals outs {q} {t} {out'} {vals'} {outs'} hn hv ho x v =
           let w = words_left out hn x in
           let p : eval (net_of W) (K ++ rec) ≡ encipher_of inst m K rec idx wh =

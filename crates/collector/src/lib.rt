@@ -2,37 +2,12 @@
 // A list passes as a pointer and a length, an answer as one number, packed as the daemon's are.
 #![tactic(auto)]
 
-ghost use Rattle.std.specs.Prelude.{◌≡◌, min};
-ghost use Rattle.daemon.specs.Packed.{Packable, most_place, packed_of};
+ghost use Rattle.std.specs.Prelude.{◌≡◌};
+ghost use Rattle.daemon.specs.Packed.{packed_of};
 ghost use Rattle.sequence.specs.Files.{file_answer};
 ghost use Rattle.collector.specs.Collector.{AppendedPacked, AppendedAfterPacked, ReadPacked};
 
-use answer::Answer;
-
-// The largest place that fits above number and list.
-const MOST_PLACE: u64 = 281474976710655;
-
-fn bounded(place: usize) -> u64
-    ensures { result ≡ min place most_place }
-{
-    let p = place as u64;
-    if p < MOST_PLACE { p } else { MOST_PLACE }
-}
-
-// Number, list and place in one number: 8 bits, 8 bits and 48 bits from the lowest up.
-fn packed(answer: Answer) -> u64
-    requires { Packable answer }
-    ensures { result ≡ packed_of answer }
-{
-    match answer {
-        Answer::Done => 0,
-        Answer::Refused {
-            number,
-            list,
-            place,
-        } => (number as u64) + 256 * (list as u64) + 65536 * bounded(place),
-    }
-}
+use daemon::packed;
 
 // Judges key, record, IV and the file so far, and writes the new frame. Lists: key, record, IV, file, frame.
 pub fn sallowknot_frames_append(
@@ -68,6 +43,7 @@ pub fn sallowknot_frames_read(key: &[u8], file: &[u8], records: &mut [u8]) -> u6
 }
 
 // Checks a file. List: file.
+#[tactic(auto, using(daemon::proofs::Numbers::packed_due, crate::proofs::Numbers::check_small))]
 pub fn sallowknot_frames_check(file: &[u8]) -> u64
     ensures { result ≡ packed_of (file_answer 1 file.now) }
 {

@@ -1,10 +1,9 @@
 -- Inner: only contracts of private functions cite this. How lists are counted.
-use Rattle.std.specs.Prelude.{◌-◌, ltb}
-use Rattle.answer.specs.declared.Answer.{Answer}
-use Rattle.answer.specs.declared.Answer.TheVariants.{Done, Refused}
+use Rattle.answer.specs.Answers.{Answer, refused}
+use Rattle.std.specs.Prelude.{◌-◌, ltb, Err, Ok}
 use Rattle.answer.specs.Choose.{choose}
 
 -- an answer of a cipher call, whose list 3 are the indices, counted without them
 unfoldable pub without_indices : Answer → Answer
-without_indices Done = Done
-without_indices (Refused number list place) = Refused number (choose (ltb 3 list) (list - 1) list) place
+without_indices (Ok _) = Ok tt
+without_indices (Err e) = refused e.reason (choose (ltb 3 e.list) (e.list - 1) e.list) e.place

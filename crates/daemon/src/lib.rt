@@ -2,56 +2,45 @@
 // lists. A list passes as a pointer and a length, an answer as one number.
 #![tactic(auto)]
 
-ghost use Rattle.std.specs.Prelude.{◌≡◌, min};
+ghost use Rattle.std.specs.Prelude.{◌≡◌};
 ghost use Rattle.records.specs.declared.form.Form.{Form};
 ghost use Rattle.records.specs.File.{check_answer};
-ghost use Rattle.daemon.specs.Packed.{Packable, most_place, packed_of};
+ghost use Rattle.daemon.specs.Packed.{packed_of, capped_of};
 ghost use Rattle.daemon.specs.Daemon.{Enciphered};
 ghost use Rattle.daemon.specs.Inner.{without_indices};
 
-use answer::Answer;
+use answer::{Answer, Refusal};
 
-// The largest place that fits above number and list.
+// The largest list and the largest place that have room.
+const MOST_LIST: u32 = 255;
+
 const MOST_PLACE: u64 = 281474976710655;
 
-fn bounded(place: usize) -> u64
-    ensures { result ≡ min place most_place }
-{
-    let p = place as u64;
-    if p < MOST_PLACE { p } else { MOST_PLACE }
-}
-
 // Number, list and place in one number: 8 bits, 8 bits and 48 bits from the lowest up.
-fn packed(answer: Answer) -> u64
-    requires { Packable answer }
-    ensures { result ≡ packed_of answer }
+#[tactic(auto, unfolding(crate::specs::Packed::capped_of))]
+pub fn packed(answer: Answer) -> u64
+    ensures { result ≡ capped_of answer }
 {
     match answer {
-        Answer::Done => 0,
-        Answer::Refused {
-            number,
-            list,
-            place,
-        } => (number as u64) + 256 * (list as u64) + 65536 * bounded(place),
+        Ok(()) => 0,
+        Err(e) => {
+            let number = u64::from(u32::from(e.reason));
+            let list = u64::from(e.list.min(MOST_LIST));
+            let place = (e.place as u64).min(MOST_PLACE);
+            number + 256 * list + 65536 * place
+        }
     }
 }
 
 // The lists counted without the indices, which are list 3 of `cipher::encipher`.
+#[tactic(auto, unfolding(crate::specs::Inner::without_indices))]
 fn without_indices(answer: Answer) -> Answer
     ensures { result ≡ without_indices answer }
 {
-    match answer {
-        Answer::Done => answer,
-        Answer::Refused {
-            number,
-            list,
-            place,
-        } => Answer::Refused {
-            number,
-            list: if 3 < list { list - 1 } else { list },
-            place,
-        },
-    }
+    answer.map_err(|e| Refusal {
+        list: if 3 < e.list { e.list - 1 } else { e.list },
+        ..e
+    })
 }
 
 // Enciphers a record of m bits; deciphers one that was enciphered. Lists: key, record, IV, result.
@@ -64,8 +53,7 @@ pub fn sallowknot_kreyvium_encipher(
 ) -> u64
     ensures { Enciphered m key.now «record».now iv.now res.old result res.new }
 {
-    let indices: [u32; 0] = [];
-    let r = cipher::encipher(6, m, key, record, &indices, iv, res);
+    let r = cipher::encipher(6, m, key, record, &[], iv, res);
     packed(without_indices(r))
 }
 

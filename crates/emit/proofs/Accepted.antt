@@ -1,4 +1,4 @@
--- What gives Done of emit_decipher, and what Done tells.
+-- What emit_decipher accepts, and what done tells.
 use Prim.Native.Nat.{ℕ, ◌+◌, ◌*◌, ◌≤◌}
 use mathlib.Core.Bool.{Bool, true, false}
 use mathlib.Core.Path.{◌≡◌, refl, sym, ap, ◌∙◌}
@@ -7,10 +7,11 @@ use native.Mathlib.Omega.{arith}
 use lib.Dec.{eqb}
 use lib.ListN.{length}
 use borrow.Author.Tests.{eq-eqb, ne_eqb, eqb-true, eqb-false}
-use Rattle.answer.specs.declared.Answer.{Answer}
-use Rattle.answer.specs.declared.Answer.TheVariants.{Done, Refused}
+use Rattle.std.specs.Prelude.{Result, Err, Ok}
+use Rattle.answer.specs.declared.Refusal.{Refusal}
+use Rattle.answer.specs.Answers.{Answer, giving}
 use Rattle.answer.specs.Fronts.{left}
-use Rattle.answer.proofs.Rows.{both, first_done, then_done, stop, pass}
+use Rattle.answer.proofs.Rows.{both, first_done, then_done, stop, pass, withheld}
 use Rattle.netlist.specs.Net.{Net}
 use Rattle.netlist.specs.declared.counts.Counts.{Counts}
 use Rattle.netlist.specs.Words.{word_count, net_counts, words}
@@ -28,42 +29,42 @@ use Rattle.rounds.proofs.Sound.{kreyvium_gates_lem, kreyvium_outs}
 use Rattle.register.specs.Judging.{emit_kreyvium_answer}
 use Rattle.register.proofs.Accepted.{kreyvium_accepted}
 use Rattle.emit.specs.declared.Size.{Size}
-use Rattle.emit.specs.Emit.{wiring_answer, decipher_answer, decipher_net, sized_by}
+use Rattle.emit.specs.Emit.{wiring_answer, decipher_answer, decipher_net, size_of, sized_by}
 use Rattle.wiring.proofs.Claims.{rows_outs}
 use Rattle.emit.specs.InnerRows.{Wiring}
 
 -- What the rules let a caller lend is accepted, with room for the netlist's words.
-pub wired_accepted : (inst m : ℕ) (idx wh : List ℕ) → Wired inst m idx wh → wiring_answer inst m idx wh ≡ Done
+pub wired_accepted : (inst m : ℕ) (idx wh : List ℕ) → Wired inst m idx wh → wiring_answer inst m idx wh ≡ Ok tt
 unfolding wiring_answer
 wired_accepted inst m idx wh w =
     both (wired_numbers inst m idx wh w)
     (both (wired_lengths inst m idx wh w 1) (both (done_bits 2 wh w.white_bit) (wired_rows inst m idx wh w 1)))
 
 pub decipher_accepted : (inst m : ℕ) (idx wh : List ℕ) (n : ℕ) → Wired inst m idx wh → length (words (decipher_net inst m idx wh)) ≤ n
-    → decipher_answer inst m idx wh n ≡ Done
+    → decipher_answer inst m idx wh n ≡ Ok tt
 unfolding decipher_answer
 decipher_accepted inst m idx wh n w h = both (wired_accepted inst m idx wh w) (done_room 3 n _ h)
 
 -- And nothing else is.
-pub wiring_wired : (inst m : ℕ) (idx wh : List ℕ) → wiring_answer inst m idx wh ≡ Done → Wired inst m idx wh
+pub wiring_wired : (inst m : ℕ) (idx wh : List ℕ) → wiring_answer inst m idx wh ≡ Ok tt → Wired inst m idx wh
 unfolding wiring_answer
 wiring_wired inst m idx wh e =
     let e1 = then_done _ _ e in
     let e2 = then_done _ _ e1 in
     done_wired 1 inst m idx wh (first_done _ _ e) (first_done _ _ e1) (first_done _ _ e2) (then_done _ _ e2)
 
-pub decipher_wired : (inst m : ℕ) (idx wh : List ℕ) (n : ℕ) → decipher_answer inst m idx wh n ≡ Done
+pub decipher_wired : (inst m : ℕ) (idx wh : List ℕ) (n : ℕ) → decipher_answer inst m idx wh n ≡ Ok tt
     → Wired inst m idx wh × (length (words (decipher_net inst m idx wh)) ≤ n)
 unfolding decipher_answer
 decipher_wired inst m idx wh n e = (wiring_wired inst m idx wh (first_done _ _ e), room_done 3 n _ (then_done _ _ e))
 
 -- for the call: a refusal of the wiring, and what is answered once it is accepted
-pub refused_early : (inst m : ℕ) (idx wh : List ℕ) (n : ℕ) {r : Answer} {x y z : ℕ} → r ≡ wiring_answer inst m idx wh → r ≡ Refused x y z
-    → r ≡ decipher_answer inst m idx wh n
+pub refused_early : (inst m : ℕ) (idx wh : List ℕ) (n : ℕ) {s : Answer} {x : Refusal} → s ≡ Err x → wiring_answer inst m idx wh ≡ Err x
+    → s ≡ decipher_answer inst m idx wh n
 unfolding decipher_answer
-refused_early inst m idx wh n e f = stop _ e f
+refused_early inst m idx wh n e f = stop _ (e ∙ sym f) e
 
-pub judged : (inst m : ℕ) (idx wh : List ℕ) (n : ℕ) {r : Answer} → wiring_answer inst m idx wh ≡ Done
+pub judged : (inst m : ℕ) (idx wh : List ℕ) (n : ℕ) {r : Answer} → wiring_answer inst m idx wh ≡ Ok tt
     → r ≡ room_answer 3 n (length (words (decipher_net inst m idx wh))) → r ≡ decipher_answer inst m idx wh n
 unfolding decipher_answer
 judged inst m idx wh n e f = pass e f
@@ -105,7 +106,7 @@ wiring_of inst m idx wh l h =
 -- Kreyvium's writer judges again what was accepted here, so it is done
 pub kreyvium_emitted : (inst m : ℕ) (idx wh out : List ℕ) (r : Answer) (o : List ℕ) → Wired inst m idx wh → inst ≡ 6
     → length (words (decipher_net inst m idx wh)) ≤ length out → Emitted (emit_kreyvium_answer m wh (length out)) (kreyvium_net wh m) out r o
-    → Emitted Done (decipher_net inst m idx wh) out r o
+    → Emitted (Ok tt) (decipher_net inst m idx wh) out r o
 kreyvium_emitted inst m idx wh out r o l e room w =
     let n = net_kreyvium inst m idx wh e in
     let iv : Bits 128 wh = record { size = iv-lent inst m idx wh l e; bit = l.white_bit } in
@@ -147,24 +148,29 @@ counts_are inst m idx wh N g w en eg k =
       outputs = sym (outs_count inst m idx wh w) k;
     }
 
--- What decipher_size returns: nothing but the refusal, or both counts.
-pub no_size : {a r : Answer} {x y z : ℕ} (net : Net) → r ≡ a → r ≡ Refused x y z → record { answer = r; gates = 0; words = 0 } ≡ sized_by a net
+-- What decipher_size returns: the refusal, or both counts.
+pub no_size : {a r : Answer} {s : Result Size Refusal} {x : Refusal} (net : Net) → s ≡ Err x → r ≡ a → r ≡ Err x → s ≡ sized_by a net
 unfolding sized_by
-no_size net e h = rw (← e, h)
+no_size net h e f = withheld _ h (sym e ∙ f)
 
-pub size_is : {a : Answer} (net : Net) (c : Counts) (n : ℕ) → a ≡ Done → c ≡ net_counts net → n ≡ word_count c
-    → record { answer = Done; gates = c.gates; words = n } ≡ sized_by a net
-unfolding sized_by
+pub size_is : {a : Answer} (net : Net) (c : Counts) (n : ℕ) → a ≡ Ok tt → c ≡ net_counts net → n ≡ word_count c
+    → Ok (record { gates = c.gates; words = n }) ≡ sized_by a net
+unfolding sized_by giving
 size_is net c n e h k = rw (e, k, h, words-length net)
 
 -- what it then tells
-pub size_answer : (a : Answer) (net : Net) {s : Size} → s ≡ sized_by a net → s.answer ≡ a
-unfolding sized_by
-size_answer Done net e = ap Size.answer e
-size_answer (Refused x y z) net e = ap Size.answer e
+pub size_refused : (a : Answer) (net : Net) {s : Result Size Refusal} {x : Refusal} → s ≡ sized_by a net → s ≡ Err x → a ≡ Err x
+unfolding sized_by giving
+size_refused (Ok _) net e h = cc
+size_refused (Err r) net e h = cc
 
-pub size_counts : {a : Answer} (net : Net) {s : Size} → s ≡ sized_by a net → a ≡ Done → (s.gates ≡ length net.gates) × (s.words ≡ length (words net))
-unfolding sized_by
-size_counts net e h =
-    let d = e ∙ ap (λ (a : Answer). sized_by a net) h in
-    (ap Size.gates d, ap Size.words d)
+pub size_answer : (a : Answer) (net : Net) {s : Result Size Refusal} {z : Size} → s ≡ sized_by a net → s ≡ Ok z → a ≡ Ok tt
+unfolding sized_by giving
+size_answer (Ok _) net e h = refl
+size_answer (Err r) net e h = cc
+
+pub size_counts : (a : Answer) (net : Net) {s : Result Size Refusal} {z : Size} → s ≡ sized_by a net → s ≡ Ok z
+    → (z.gates ≡ length net.gates) × (z.words ≡ length (words net))
+unfolding sized_by giving
+size_counts (Ok _) net {z = z} e h = let d : z ≡ size_of net = cc in (ap Size.gates d, ap Size.words d)
+size_counts (Err r) net e h = cc

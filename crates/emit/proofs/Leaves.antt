@@ -6,6 +6,7 @@ use native.Mathlib.Omega.{arith}
 use lib.ListN.{length}
 use lib.Seq.{sets}
 use Rattle.netlist.specs.declared.gate.Gate.TheVariants.{Mux, And}
+use Rattle.netlist.specs.Gates.{gate_words}
 use Rattle.netlist.specs.Put.{put_gates}
 use Rattle.cells.specs.InnerLoop.{pos, down, tail, low_gates, sum_gates, first_gates, first_wire}
 
@@ -54,11 +55,16 @@ tail_none : (x a s m : ℕ) → m ≤ 0 → tail x a s m ≡ And a x ∷ []
 tail_none x a s zero h = refl
 tail_none x a s (suc m) h = absurd (omega arith)
 
-pub tail-turn : (out o : List ℕ) (i x a s m : ℕ) → 0 < m → o ≡ sets out i (5 ∷ x ∷ s ∷ a ∷ []) → put_gates o (i + 4) (tail x s (s + 1) (m - 1)) ≡ put_gates out i (tail x a s m)
-unfolding put_gates
-tail-turn out o i x a s m h e = ap (λ (l : List ℕ). put_gates l (i + 4) (tail x s (s + 1) (m - 1))) e ∙ sym (ap (put_gates out i) (tail_more x a s m h))
+pub tail_start : (out : List ℕ) (at x a s m n : ℕ) → n ≡ m → put_gates out at (tail x a s n) ≡ put_gates out at (tail x a s m)
+tail_start out at x a s m n h = ap (λ (k : ℕ). put_gates out at (tail x a s k)) h
 
-pub tail_end : (out o : List ℕ) (i x a s m : ℕ) → m ≤ 0 → o ≡ sets out i (4 ∷ a ∷ x ∷ 0 ∷ []) → o ≡ put_gates out i (tail x a s m)
+pub tail-turn : (out o : List ℕ) (i x a s m n : ℕ) → n + 1 ≡ m → o ≡ sets out i (gate_words (Mux x s a)) → put_gates o (i + 4) (tail x s (s + 1) n) ≡ put_gates out i (tail x a s m)
+unfolding put_gates
+tail-turn out o i x a s m n h e =
+    let g : n ≡ m - 1 = omega arith in
+    (λ j. put_gates (e j) (i + 4) (tail x s (s + 1) (g j))) ∙ sym (ap (put_gates out i) (tail_more x a s m (omega arith)))
+
+pub tail_end : (out o : List ℕ) (i x a s m : ℕ) → m ≤ 0 → o ≡ sets out i (gate_words (And a x)) → o ≡ put_gates out i (tail x a s m)
 unfolding put_gates
 tail_end out o i x a s m h e = e ∙ sym (ap (put_gates out i) (tail_none x a s m h))
 

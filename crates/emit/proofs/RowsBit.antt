@@ -37,13 +37,13 @@ module _ (inst rec next : ℕ) (row ws : List ℕ) (a : 1 ≤ inst) (b : inst �
   part_last = omega (arith, part_is.1, part_length, filter-length (next + length G) inst (vars next row ws) a b n)
 
   -- in the code's words: what was stored behind the NOTs, and where there are none
-  pub bit_wrote : (out o₁ o₂ : List ℕ) (at free r : ℕ) (xs : List ℕ) → puts.Awaits out at G o₁ → free ≡ next + length G → xs ≡ vars next row ws
-      → Wrote o₁ (at + 4 * (free - next)) (emit free (sum (filter_exp chain inst xs) (wire rec))) o₂ r → Wrote out at (bit_part chain inst rec next row ws) o₂ r
+  pub bit_wrote : (out o₁ o₂ : List ℕ) (at i free r : ℕ) (xs : List ℕ) → puts.Awaits out at G o₁ → i ≡ at + 4 * length G → free ≡ next + length G → xs ≡ vars next row ws
+      → Wrote o₁ i (emit free (sum (filter_exp chain inst xs) (wire rec))) o₂ r → Wrote out at (bit_part chain inst rec next row ws) o₂ r
   unfolding bit_part bit_exp emit join input past
-  bit_wrote out o₁ o₂ at free r xs e₁ e₂ e₃ w =
-      let x = wrote_same o₁ o₂ (at + 4 * (free - next)) r (ap₂ (λ (z : ℕ) (y : List ℕ). emit z (sum (filter_exp chain inst y) (wire rec))) e₂ e₃) w in
+  bit_wrote out o₁ o₂ at i free r xs e₁ ei e₂ e₃ w =
+      let x = wrote_same o₁ o₂ i r (ap₂ (λ (z : ℕ) (y : List ℕ). emit z (sum (filter_exp chain inst y) (wire rec))) e₂ e₃) w in
       record {
-        gates = x.gates ∙ puts.awaited G P.gates (Xor P.out rec) out o₁ at (at + 4 * (free - next)) e₁ (omega arith);
+        gates = x.gates ∙ puts.awaited G P.gates (Xor P.out rec) out o₁ at i e₁ ei;
         wire = x.wire;
       }
 

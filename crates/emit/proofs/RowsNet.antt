@@ -4,7 +4,7 @@ use mathlib.Core.Path.{◌≡◌, sym, ap, ap₂, ◌∙◌}
 use mathlib.Core.List.{List}
 use native.Mathlib.Omega.{arith}
 use native.Mathlib.Nat.{mul-le-mul}
-use lib.ListN.{length}
+use lib.ListN.{length, take, length-take}
 use lib.Seq.{sets}
 use Rattle.answer.specs.Fronts.{over}
 use Rattle.netlist.specs.Words.{header_words, gate_place, header, words}
@@ -53,6 +53,10 @@ module _ (inst m : ℕ) (idx wh : List ℕ) (W : Wiring inst m idx wh) where
   -- room for l outputs behind g gates
   pub outs_room : (len g l : ℕ) → l ≡ m → g ≡ length (rows_net chain inst idx wh m).gates → length (words (rows_net chain inst idx wh m)) ≤ len → gate_place g + l ≤ len
   outs_room len g l el eg h = omega (arith, words-length (rows_net chain inst idx wh m), net_outs)
+
+-- the front of a room that is long enough
+pub front_long : (n k : ℕ) (l : List ℕ) → n ≡ k → n ≤ length l → length (take n l) ≡ k
+front_long n k l e h = omega (arith, length-take n l)
 
 pub wiring_of : (inst m l : ℕ) (idx wh : List ℕ) → l ≡ m → Wiring inst m idx wh → Wiring inst l idx wh
 wiring_of inst m l idx wh e W = rw e W

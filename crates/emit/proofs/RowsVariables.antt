@@ -6,6 +6,10 @@ use native.Mathlib.Omega.{arith}
 use native.Mathlib.Numerals.{add-one}
 use lib.ListN.{length, get_or, take, drop, set, length-append, length-set, drop_of_length-le}
 use lib.Seq.{sets, length-sets, drop-cons, take-suc-set, take_all}
+use mir.Val.{bool_byte}
+use mathlib.Core.Bool.{Bool, not}
+use borrow.Author.Tests.{ne_eqb}
+use Rattle.std.specs.Prelude.{nat_eq}
 use Rattle.netlist.specs.declared.gate.Gate.{Gate}
 use Rattle.netlist.specs.declared.gate.Gate.TheVariants.{Not}
 use Rattle.netlist.specs.Gates.{gate_words}
@@ -125,6 +129,7 @@ module _ (row ws out₀ : List ℕ) (at next : ℕ) where
     pub record Ended : Type 0 where
       pub gates : Awaits out₀ at (nots row ws) out
       pub wires : xs ≡ vars next row ws
+      pub index : i ≡ at + 4 * length (nots row ws)
       pub count : wire ≡ next + length (nots row ws)
 
     pub going_end : length row ≤ j → Ended
@@ -137,6 +142,7 @@ module _ (row ws out₀ : List ℕ) (at next : ℕ) where
               ∙ sym (ap₂ (λ (a b : List ℕ). put_gates out i (nots a b ++ x ∷ [])) d1 d2)
               ∙ g.gates x;
           wires = sym (ap₂ ◌++◌ (take_all j xs (omega (arith, g.xs_long))) (ap₂ (vars wire) d1 d2) ∙ append-nil xs) ∙ g.wires;
+          index = omega (arith, ap₂ (λ (a b : List ℕ). length (nots a b)) d1 d2, g.index);
           count = omega (arith, ap₂ (λ (a b : List ℕ). length (nots a b)) d1 d2, g.count);
         }
 
@@ -151,15 +157,13 @@ unfolding variable_wire
 wire_not p zero n e = absurd (e refl)
 wire_not p (suc w) n e = refl
 
-pub flips_none : (w : ℕ) → w ≡ 0 → 0 ≡ flips w
+-- what the code makes of a test, and that it is 0 or 1
+pub flips_told : (w : ℕ) {r : ℕ} → r ≡ bool_byte (not (nat_eq w 0)) → (r ≡ flips w) × (r ≤ 1)
 unfolding flips
-flips_none zero e = refl
-flips_none (suc w) e = absurd (omega arith)
-
-pub flips-one : (w : ℕ) → (w ≡ 0 → ⊥) → 1 ≡ flips w
-unfolding flips
-flips-one zero e = absurd (e refl)
-flips-one (suc w) e = refl
+flips_told zero e = (e, omega (arith, e))
+flips_told (suc w) e =
+    let t : bool_byte (not (nat_eq (suc w) 0)) ≡ 1 = ap (λ (b : Bool). bool_byte (not b)) (ne_eqb (suc w) 0 (λ z. absurd (omega arith))) in
+    (e ∙ t, omega (arith, e, t))
 
 -- a row without whitening
 pub record Bare (next : ℕ) (row ws : List ℕ) : Type 0 where

@@ -9,9 +9,10 @@ use borrow.Author.Tests.{lt-ltb, le-ltb, eq-eqb, ne_eqb, ltb-false, eqb-false}
 use lib.Dec.{ltb, eqb}
 use lib.ListN.{length, set, take}
 use lib.Seq.{sets}
-use Rattle.answer.specs.declared.Answer.{Answer}
-use Rattle.answer.specs.declared.Answer.TheVariants.{Done, Refused}
-use Rattle.answer.specs.Answers.{◌▹◌, refuse}
+use Rattle.std.specs.Prelude.{Ok, Err}
+use Rattle.answer.specs.declared.Refusal.{Refusal}
+use Rattle.answer.specs.declared.Reason.TheVariants.{Shape}
+use Rattle.answer.specs.Answers.{Answer, refused, ◌▹◌, refuse}
 use Rattle.answer.specs.Choose.{choose}
 use Rattle.answer.specs.Fronts.{over}
 use Rattle.answer.proofs.Rows.{refuse_not, refuse_yes, stop, pass}
@@ -157,6 +158,9 @@ shape_good d n e =
     let b = choose_false (eqb d 0) _ a.1 in
     (ltb-false 64 n a.0, omega (arith, eqb-false d 0 b.0), ltb-false (n + 1) d b.1)
 
+pub good_shape : (d n : ℕ) → n ≤ 64 → 1 ≤ d → d ≤ n + 1 → no_threshold d n ≡ false
+good_shape d n h k l = sym (shape_last d n h (λ e. absurd (omega arith))) ∙ le-ltb (n + 1) d l
+
 -- the need that was counted is that of the netlist
 pub need_is : {need : ℕ} {a b : Counts} → need ≡ word_count a → a ≡ b → need ≡ word_count b
 need_is e f = e ∙ ap word_count f
@@ -164,20 +168,20 @@ need_is e f = e ∙ ap word_count f
 -- What a call answers and leaves, where `shape` says that 13 is due.
 module _ (shape : Bool) (net : Net) (out : List ℕ) where
   abbrev due : Answer
-  due = refuse 13 0 0 shape ▹ room_answer 1 (length out) (length (words net))
+  due = refuse Shape 0 0 shape ▹ room_answer 1 (length out) (length (words net))
 
-  pub no_shape : (r : Answer) → shape ≡ true → r ≡ Refused 13 0 0 → Emitted due net out r out
-  no_shape r e f = record { answered = f ∙ stop _ (refuse_yes 13 0 0 e) refl; written = kept _ _ f }
+  pub no_shape : (r : Answer) → shape ≡ true → r ≡ refused Shape 0 0 → Emitted due net out r out
+  no_shape r e f = record { answered = f ∙ stop _ (refuse_yes Shape 0 0 e) refl; written = kept _ _ f }
 
   module _ (good : shape ≡ false) (r : Answer) (need : ℕ) (counted : need ≡ word_count (net_counts net)) (judged : r ≡ room_answer 1 (length out) need) where
     answered_room : r ≡ due
-    answered_room = pass (refuse_not 13 0 0 good) (judged ∙ ap (room_answer 1 (length out)) (counted ∙ sym (words-length net)))
+    answered_room = pass (refuse_not Shape 0 0 good) (judged ∙ ap (room_answer 1 (length out)) (counted ∙ sym (words-length net)))
 
-    pub no_room : {x y z : ℕ} → r ≡ Refused x y z → Emitted due net out r out
-    no_room e = record { answered = answered_room; written = kept _ _ e }
+    pub no_room : {s : Answer} {x : Refusal} → s ≡ Err x → r ≡ Err x → Emitted due net out s out
+    no_room e h = record { answered = e ∙ sym h ∙ answered_room; written = kept _ _ e }
 
-    pub in_room : r ≡ Done → length (words net) ≤ length out
+    pub in_room : r ≡ Ok tt → length (words net) ≤ length out
     in_room e = room_done 1 (length out) (length (words net)) (ap (room_answer 1 (length out)) (words-length net ∙ sym counted) ∙ sym judged ∙ e)
 
-    pub all-written : (o : List ℕ) → r ≡ Done → o ≡ over (words net) out → Emitted due net out Done o
+    pub all-written : (o : List ℕ) → r ≡ Ok tt → o ≡ over (words net) out → Emitted due net out (Ok tt) o
     all-written o e f = record { answered = sym e ∙ answered_room; written = f ∙ made _ _ refl }

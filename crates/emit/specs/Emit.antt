@@ -1,8 +1,8 @@
 -- What the calls of emission answer. docs/RULES.md, "What is emitted" and "Answer numbers".
-use Rattle.std.specs.Prelude.{ℕ, ◌+◌, Bool, true, List, length, ltb, eqb}
-use Rattle.answer.specs.declared.Answer.{Answer}
-use Rattle.answer.specs.declared.Answer.TheVariants.{Done, Refused}
-use Rattle.answer.specs.Answers.{◌▹◌, refuse}
+use Rattle.answer.specs.declared.Reason.TheVariants.{Shape}
+use Rattle.std.specs.Prelude.{ℕ, ◌+◌, Bool, true, List, length, ltb, eqb, Result}
+use Rattle.answer.specs.declared.Refusal.{Refusal}
+use Rattle.answer.specs.Answers.{Answer, ◌▹◌, refuse, giving}
 use Rattle.answer.specs.Judges.{room_answer}
 use Rattle.answer.specs.Bits.{bits_answer}
 use Rattle.answer.specs.Choose.{choose}
@@ -17,14 +17,14 @@ use Rattle.emit.specs.declared.Size.{Size}
 
 -- 13: n above 64; 8 on the result, for which so many words are lent
 unfoldable pub one_hot_answer : ℕ → ℕ → Answer
-one_hot_answer n room = refuse 13 0 0 (ltb 64 n) ▹ room_answer 1 room (length (words (one_hot_net n)))
+one_hot_answer n room = refuse Shape 0 0 (ltb 64 n) ▹ room_answer 1 room (length (words (one_hot_net n)))
 
 -- n above 64, d = 0 or d > n+1
 unfoldable pub no_threshold : ℕ → ℕ → Bool
 no_threshold d n = choose (ltb 64 n) true (choose (eqb d 0) true (ltb (n + 1) d))
 
 unfoldable pub threshold_answer : ℕ → ℕ → ℕ → Answer
-threshold_answer d n room = refuse 13 0 0 (no_threshold d n) ▹ room_answer 1 room (length (words (threshold_net d n)))
+threshold_answer d n room = refuse Shape 0 0 (no_threshold d n) ▹ room_answer 1 room (length (words (threshold_net d n)))
 
 -- the deciphering netlist; products are AND chains from the left
 unfoldable pub decipher_net : ℕ → ℕ → List ℕ → List ℕ → Net
@@ -40,7 +40,9 @@ unfoldable pub decipher_answer : ℕ → ℕ → List ℕ → List ℕ → ℕ �
 decipher_answer inst m idx wh room =
     wiring_answer inst m idx wh ▹ room_answer 3 room (length (words (decipher_net inst m idx wh)))
 
--- how many gates and words a netlist has, and 0 of both where the answer is a refusal
-unfoldable pub sized_by : Answer → Net → Size
-sized_by Done net = record { answer = Done; gates = length net.gates; words = length (words net) }
-sized_by (Refused number list place) net = record { answer = Refused number list place; gates = 0; words = 0 }
+-- how many gates and words a netlist has, where the answer is done
+abbrev pub size_of : Net → Size
+size_of net = record { gates = length net.gates; words = length (words net) }
+
+unfoldable pub sized_by : Answer → Net → Result Size Refusal
+sized_by due net = giving due (size_of net)

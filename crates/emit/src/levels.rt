@@ -2,12 +2,15 @@
 // emitted". Room is the caller's to see to.
 ghost use Rattle.std.specs.Prelude.{◌≡◌, ◌+◌, ◌-◌, ◌*◌, ◌≤◌, ◌<◌, length, get_or};
 ghost use Rattle.netlist.specs.Glue.{up_from};
+ghost use Rattle.netlist.specs.Words.{header_words, gate_place};
 ghost use Rattle.netlist.specs.Put.{put_gates, Wrote};
 ghost use Rattle.cells.specs.Cells.{threshold_part};
 ghost use Rattle.cells.specs.InnerLoop.{pos, down, tail, low_gates, sum_gates, first_gates, first_wire, cells};
 ghost use Rattle.emit.specs.InnerLevels.{level_gates, after_level, first_level, LevelFits, StepFits};
 
-use crate::put::put_gate;
+use crate::put::{Next, put_gate, put_wires};
+use netlist::HEADER_WORDS;
+use netlist::gate::Gate;
 
 // Where a run of levels stands. Cell 0 is kept at `lows` more levels. The last AND of a level is a cell at
 // `highs` - 1 more; then it is the sum, and after that it joins the sum. The row before has its cells at wires
@@ -24,18 +27,28 @@ pub struct LevelRow {
     pub sum: u32,
 }
 
+// The cells over inputs 0 .. n-1, with cell 0 kept at the first `lows` levels and the last cell at the first `highs`.
+#[derive(Clone, Copy)]
+pub(crate) struct Cells {
+    pub(crate) n: u32,
+    pub(crate) lows: u32,
+    pub(crate) highs: u32,
+    ghost some: { 1 ≤ n },
+    ghost few: { n ≤ 64 },
+}
+
 // 1 from one on.
 fn pos_of(n: u32) -> u32
     ensures { (result ≡ pos n) × (result ≤ 1) }
 {
-    if 0 < n { 1 } else { 0 }
+    u32::from(0 < n)
 }
 
 // One less, and 0 of 0.
 fn down_of(n: u32) -> u32
     ensures { (result ≡ down n) × (result ≡ n - 1) }
 {
-    if 0 < n { n - 1 } else { 0 }
+    n.saturating_sub(1)
 }
 
 // Cell 0 where it is kept: NOT of the input, AND of the row's first cell and that.
@@ -44,8 +57,8 @@ fn put_low(out: &mut [u32], at: usize, lows: u32, x: u32, first: u32, next: u32)
     ensures { out.new ≡ put_gates out.old at (low_gates lows x first next) }
 {
     if 0 < lows {
-        put_gate(out, at, netlist::gate::NOT_KIND, x, 0, 0);
-        put_gate(out, at + 4, netlist::gate::AND_KIND, first, next, 0);
+        put_gate(out, at, Gate::Not(x));
+        put_gate(out, at + 4, Gate::And(first, next));
     }
 }
 
@@ -54,18 +67,15 @@ fn put_tail(out: &mut [u32], at: usize, x: u32, first: u32, second: u32, more: u
     requires { (at + 4 * (more + 1) ≤ length out.old) × (second + more < 4294967296) }
     ensures { out.new ≡ put_gates out.old at (tail x first second more) }
 {
+    // The place is counted on: reckoned from the cell's number it is a tenth slower.
     let mut i = at;
     let mut before = first;
-    let mut cell = second;
-    let mut left = more;
-    while 0 < left {
-        put_gate(out, i, netlist::gate::MUX_KIND, x, cell, before);
+    for cell in second..second + more {
+        put_gate(out, i, Gate::Mux(x, cell, before));
         i += 4;
         before = cell;
-        cell += 1;
-        left -= 1;
     }
-    put_gate(out, i, netlist::gate::AND_KIND, before, x, 0);
+    put_gate(out, i, Gate::And(before, x));
 }
 
 // Above level d: XOR of the last AND and the previous sum.
@@ -74,7 +84,7 @@ fn put_sum(out: &mut [u32], at: usize, highs: u32, last: u32, sum: u32)
     ensures { out.new ≡ put_gates out.old at (sum_gates highs last sum) }
 {
     if highs == 0 {
-        put_gate(out, at, netlist::gate::XOR_KIND, last, sum, 0);
+        put_gate(out, at, Gate::Xor(last, sum));
     }
 }
 
@@ -153,57 +163,65 @@ fn put_first(out: &mut [u32], at: usize, lows: u32, x: u32)
     ensures { out.new ≡ put_gates out.old at (first_gates lows x) }
 {
     if 0 < lows {
-        put_gate(out, at, netlist::gate::NOT_KIND, x, 0, 0);
+        put_gate(out, at, Gate::Not(x));
     }
 }
 
 // All levels over the input wires ws; the next free wire.
-pub(crate) fn put_cells(
-    out: &mut [u32],
-    at: usize,
-    next: u32,
-    lows: u32,
-    highs: u32,
-    ws: &[u32],
-) -> u32
-    requires in_bounds { (1 ≤ length ws.now) × (length ws.now ≤ 64) × (next ≤ 1000000) × (get_or ws.now 0 0 < next) }
-    requires next_in_bounds { at + 4 * length (cells ws.now lows highs next) ≤ length out.old }
-    ensures out_after { out.new ≡ put_gates out.old at (cells ws.now lows highs next) }
-    ensures value { (result ≡ next + length (cells ws.now lows highs next)) × (result ≤ 1010000) }
+pub(crate) fn put_cells(out: &mut [u32], next: Next, lows: u32, highs: u32, ws: &[u32]) -> u32
+    requires in_bounds { (1 ≤ length ws.now) × (length ws.now ≤ 64) × (next.wire ≤ 1000000) × (get_or ws.now 0 0 < next.wire) }
+    requires next_in_bounds { next.at + 4 * length (cells ws.now lows highs next.wire) ≤ length out.old }
+    ensures out_after { out.new ≡ put_gates out.old next.at (cells ws.now lows highs next.wire) }
+    ensures value { (result ≡ next.wire + length (cells ws.now lows highs next.wire)) × (result ≤ 1010000) }
 {
     let x = ws[0];
-    put_first(out, at, lows, x);
-    let mut r = first_level(at, next, lows, highs, x);
-    let mut j: usize = 1;
-    while j < ws.len() {
+    put_first(out, next.at, lows, x);
+    let mut r = first_level(next.at, next.wire, lows, highs, x);
+    // By place: what is still to store is told from place j of ws on, and a walk over &ws[1..] would count one less.
+    for j in 1..ws.len() {
         r = put_level(out, r, ws[j]);
-        j += 1;
     }
     r.next
 }
 
 // Threshold d over the wires ws, of which there are at least two; its wire.
-pub(crate) fn put_threshold(out: &mut [u32], at: usize, next: u32, d: u32, ws: &[u32]) -> u32
-    requires in_bounds { (2 ≤ length ws.now) × (length ws.now ≤ 64) × (1 ≤ d) × (d ≤ length ws.now) × (next ≤ 1000000) × (get_or ws.now 0 0 < next) }
-    requires ws_in_bounds { at + 4 * length (threshold_part next d ws.now).gates ≤ length out.old }
-    ensures wrote { Wrote out.old at (threshold_part next d ws.now) out.new result }
+pub(crate) fn put_threshold(out: &mut [u32], next: Next, d: u32, ws: &[u32]) -> u32
+    requires in_bounds { (2 ≤ length ws.now) × (length ws.now ≤ 64) × (1 ≤ d) × (d ≤ length ws.now) × (next.wire ≤ 1000000) × (get_or ws.now 0 0 < next.wire) }
+    requires ws_in_bounds { next.at + 4 * length (threshold_part next.wire d ws.now).gates ≤ length out.old }
+    ensures wrote { Wrote out.old next.at (threshold_part next.wire d ws.now) out.new result }
     ensures upper_bound { result ≤ 1010000 }
 {
     let n = ws.len() as u32;
-    let free = put_cells(out, at, next, n - d, d, ws);
+    let free = put_cells(out, next, n - d, d, ws);
     down_of(free)
 }
 
-// How many gates the cells over inputs 0 .. n-1 have: the levels walked without storing any.
-pub(crate) fn count_cells(n: u32, lows: u32, highs: u32) -> u32
-    requires { (1 ≤ n) × (n ≤ 64) }
-    ensures { (result ≡ length (cells (up_from 0 n) lows highs n)) × (result ≤ 10000) }
-{
-    let mut r = first_level(0, n, lows, highs, 0);
-    let mut j: u32 = 1;
-    while j < n {
-        r = after_level(r);
-        j += 1;
+impl Cells {
+    // How many gates they have: the levels walked without storing any.
+    pub(crate) fn count(self) -> u32
+        ensures { (result ≡ length (cells (up_from 0 self.n) self.lows self.highs self.n)) × (result ≤ 10000) }
+    {
+        let n = self.n;
+        let mut r = first_level(0, n, self.lows, self.highs, 0);
+        for _level in 1..n {
+            r = after_level(r);
+        }
+        r.next - n
     }
-    r.next - n
+
+    // Their gates, behind the header.
+    pub(crate) fn put(self, out: &mut [u32])
+        requires { gate_place (length (cells (up_from 0 self.n) self.lows self.highs self.n)) ≤ length out.old }
+        ensures { out.new ≡ put_gates out.old header_words (cells (up_from 0 self.n) self.lows self.highs self.n) }
+    {
+        let n = self.n;
+        let mut wires = [0u32; 64];
+        put_wires(&mut wires, 0, 0, n);
+        let end = n as usize;
+        let next = Next {
+            at: HEADER_WORDS,
+            wire: n,
+        };
+        put_cells(out, next, self.lows, self.highs, &wires[..end]);
+    }
 }

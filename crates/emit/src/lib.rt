@@ -7,21 +7,21 @@ mod nets;
 mod put;
 mod rows;
 
-ghost use Rattle.std.specs.Prelude.{◌≡◌, ◌≤◌, length};
-ghost use Rattle.answer.specs.declared.Answer.TheVariants.{Done};
+ghost use Rattle.std.specs.Prelude.{◌≡◌, ◌≤◌, length, Ok};
 ghost use Rattle.cells.specs.Cells.{one_hot_net, threshold_net};
 ghost use Rattle.netlist.specs.Words.{net_counts, words};
 ghost use Rattle.netlist.specs.Emitted.{Emitted};
 ghost use Rattle.instance.specs.Wired.{Wired};
 ghost use Rattle.emit.specs.Emit.{one_hot_answer, threshold_answer, decipher_net, wiring_answer, decipher_answer, sized_by};
 
-use answer::Answer;
+use answer::{Answer, Reason, Refusal};
 use netlist::counts::Counts;
+use nets::{OneHot, Threshold, no_threshold};
+use rows::RowsNet;
 
-// How many gates and words a netlist has, where the call that says so is done.
-#[derive(Clone, Copy)]
+// How many gates and words a netlist has.
+#[derive(Clone, Copy, Debug, PartialEq, Eq)]
 pub struct Size {
-    pub answer: Answer,
     pub gates: usize,
     pub words: usize,
 }
@@ -31,81 +31,117 @@ pub fn emit_one_hot(n: u32, res: &mut [u32]) -> Answer
     ensures { Emitted (one_hot_answer n (length res.old)) (one_hot_net n) res.old result res.new }
 {
     if 64 < n {
-        return answer::refused(answer::SHAPE, 0, 0);
+        return answer::refused(Reason::Shape, 0, 0);
     }
-    let mut wires = [0u32; 64];
-    nets::one_hot(n, res, &mut wires)
+    let net = OneHot { n };
+    net.put(res)
 }
 
 // Threshold d of n inputs.
 pub fn emit_threshold(d: u32, n: u32, res: &mut [u32]) -> Answer
     ensures { Emitted (threshold_answer d n (length res.old)) (threshold_net d n) res.old result res.new }
 {
-    if nets::no_threshold(d, n) {
-        return answer::refused(answer::SHAPE, 0, 0);
+    if no_threshold(d, n) {
+        return answer::refused(Reason::Shape, 0, 0);
     }
-    let mut wires = [0u32; 64];
-    nets::threshold(d, n, res, &mut wires)
+    let net = Threshold { d, n };
+    net.put(res)
 }
 
-// How many gates the deciphering netlist of an accepted wiring has.
-fn decipher_gates(instance: u32, m: u32, indices: &[u32], whitening: &[u8]) -> usize
-    requires { Wired instance m indices.now whitening.now }
-    ensures { (result ≡ length (decipher_net instance m indices.now whitening.now).gates) × (result ≤ 178432) }
-{
-    if instance == 6 {
-        return 16130 + 17 * (m as usize);
-    }
-    rows::rows_gates(instance, m, whitening)
+// A wiring that is accepted.
+#[derive(Clone, Copy)]
+struct Lent<'a> {
+    instance: u32,
+    m: u32,
+    indices: &'a [u32],
+    whitening: &'a [u8],
+    ghost wired: { Wired instance m indices.now whitening.now },
 }
 
-// What it has of each.
-fn decipher_counts(instance: u32, m: u32, indices: &[u32], whitening: &[u8]) -> Counts
-    requires { Wired instance m indices.now whitening.now }
-    ensures { result ≡ net_counts (decipher_net instance m indices.now whitening.now) }
-{
-    let sizes = instance::sizes_of(instance);
-    let key = sizes.key;
-    let gates = decipher_gates(instance, m, indices, whitening);
-    Counts {
-        inputs: key as u32 + m,
-        gates: gates as u32,
-        outputs: m,
+impl Lent<'_> {
+    // How many gates its deciphering netlist has.
+    fn gates(self) -> usize
+        ensures { (result ≡ length (decipher_net self.entry.instance self.entry.m self.entry.indices.now self.entry.whitening.now).gates) × (result ≤ 178432) }
+    {
+        let Lent {
+            instance,
+            m,
+            indices,
+            whitening,
+        } = self;
+        if instance == 6 {
+            return 16130 + 17 * (m as usize);
+        }
+        let net = RowsNet {
+            instance,
+            m,
+            indices,
+            whitening,
+        };
+        net.gates()
+    }
+
+    // What that netlist has of each.
+    fn counts(self) -> Counts
+        ensures { result ≡ net_counts (decipher_net self.entry.instance self.entry.m self.entry.indices.now self.entry.whitening.now) }
+    {
+        let sizes = instance::sizes_of(self.instance);
+        let key = sizes.key;
+        let gates = self.gates();
+        Counts {
+            inputs: key as u32 + self.m,
+            gates: gates as u32,
+            outputs: self.m,
+        }
+    }
+
+    // That netlist, where there is room for it.
+    fn put(self, res: &mut [u32]) -> Answer
+        requires { length (words (decipher_net self.instance self.m self.indices.now self.whitening.now)) ≤ length res.old }
+        ensures { Emitted (Ok tt) (decipher_net self.entry.instance self.entry.m self.entry.indices.now self.entry.whitening.now) res.old result res.new }
+    {
+        let Lent {
+            instance,
+            m,
+            indices,
+            whitening,
+        } = self;
+        if instance == 6 {
+            return register::emit_kreyvium(m, whitening, res);
+        }
+        let net = RowsNet {
+            instance,
+            m,
+            indices,
+            whitening,
+        };
+        net.put(res);
+        Ok(())
     }
 }
 
 // What emit_decipher needs room for: how many gates and words the deciphering netlist has. All is judged that emit_decipher
-// judges, but for the room. Both are 0 on a refusal.
-pub fn decipher_size(instance: u32, m: u32, indices: &[u32], whitening: &[u8]) -> Size
+// judges, but for the room.
+pub fn decipher_size(
+    instance: u32,
+    m: u32,
+    indices: &[u32],
+    whitening: &[u8],
+) -> Result<Size, Refusal>
     ensures { result ≡ sized_by (wiring_answer instance m indices.now whitening.now) (decipher_net instance m indices.now whitening.now) }
 {
-    let r = judge::wiring(instance, m, indices, whitening);
-    let Answer::Done = r else {
-        return Size {
-            answer: r,
-            gates: 0,
-            words: 0,
-        };
+    judge::wiring(instance, m, indices, whitening)?;
+    let lent = Lent {
+        instance,
+        m,
+        indices,
+        whitening,
     };
-    let counts = decipher_counts(instance, m, indices, whitening);
-    Size {
-        answer: Answer::Done,
+    let counts = lent.counts();
+    Ok(Size {
         gates: counts.gates as usize,
         words: netlist::counts::word_count(counts),
-    }
-}
-
-// That netlist, where there is room for it. Done is the answer.
-fn put_decipher(instance: u32, m: u32, indices: &[u32], whitening: &[u8], res: &mut [u32]) -> Answer
-    requires wired { Wired instance m indices.now whitening.now }
-    requires whitening_in_bounds { length (words (decipher_net instance m indices.now whitening.now)) ≤ length res.old }
-    ensures { Emitted Done (decipher_net instance m indices.now whitening.now) res.old result res.new }
-{
-    if instance == 6 {
-        return register::emit_kreyvium(m, whitening, res);
-    }
-    rows::put_rows_net(res, instance, m, indices, whitening);
-    Answer::Done
+    })
 }
 
 // The deciphering netlist of an instance for a record of m bits. whitening is the IV for Kreyvium.
@@ -118,14 +154,13 @@ pub fn emit_decipher(
 ) -> Answer
     ensures { Emitted (decipher_answer instance m indices.now whitening.now (length res.old)) (decipher_net instance m indices.now whitening.now) res.old result res.new }
 {
-    let size = decipher_size(instance, m, indices, whitening);
-    let r = size.answer;
-    let Answer::Done = r else {
-        return r;
+    let size = decipher_size(instance, m, indices, whitening)?;
+    answer::room(res.len(), size.words, 3)?;
+    let lent = Lent {
+        instance,
+        m,
+        indices,
+        whitening,
     };
-    let s = answer::room(res.len(), size.words, 3);
-    let Answer::Done = s else {
-        return s;
-    };
-    put_decipher(instance, m, indices, whitening, res)
+    lent.put(res)
 }

@@ -1,5 +1,5 @@
-// The one-hot and threshold netlists whole: the counts, the cells over inputs 0 .. n-1, the outputs. They are
-// lent room for 64 wire numbers.
+// The one-hot and threshold netlists whole: the counts, the cells over inputs 0 .. n-1, the outputs. What both
+// share is in levels and put_wires; the rest differs in each line: the constant netlist, the levels kept, the outputs.
 ghost use Rattle.std.specs.Prelude.{◌≡◌, false, ◌+◌, ◌*◌, ◌≤◌, ◌<◌, length};
 ghost use Rattle.std.proofs.lemmas.List.Edits.{sets};
 ghost use Rattle.netlist.specs.Glue.{up_from};
@@ -10,167 +10,169 @@ ghost use Rattle.netlist.specs.Emitted.{Emitted};
 ghost use Rattle.netlist.specs.Put.{put_gates};
 ghost use Rattle.emit.specs.Emit.{one_hot_answer, threshold_answer, no_threshold};
 
-use crate::levels::{count_cells, put_cells};
-use crate::put::put_gate;
+use crate::levels::Cells;
+use crate::put::{put_gate, put_wires};
 use answer::Answer;
 use netlist::counts::Counts;
+use netlist::gate::Gate;
 use netlist::{GATE_STRIDE, HEADER_WORDS};
 
-// n wires in order from wire `from` on, stored from word at on.
-fn put_wires(out: &mut [u32], at: usize, from: u32, n: u32)
-    requires { (at + n ≤ length out.old) × (from + n < 4294967296) }
-    ensures { out.new ≡ sets out.old at (up_from from n) }
-{
-    let mut i = at;
-    let mut wire = from;
-    let mut left = n;
-    while 0 < left {
-        out[i] = wire;
-        i += 1;
-        wire += 1;
-        left -= 1;
+// The one-hot netlist of n inputs.
+#[derive(Clone, Copy)]
+pub(crate) struct OneHot {
+    pub(crate) n: u32,
+    ghost few: { n ≤ 64 },
+}
+
+// The netlist of threshold d of n inputs.
+#[derive(Clone, Copy)]
+pub(crate) struct Threshold {
+    pub(crate) d: u32,
+    pub(crate) n: u32,
+    ghost few: { n ≤ 64 },
+    ghost some: { 1 ≤ d },
+    ghost most: { d ≤ n + 1 },
+}
+
+impl OneHot {
+    // How many gates it has.
+    fn count(self) -> u32
+        ensures { (result ≡ length (one_hot_net self.n).gates) × (result ≤ 10000) }
+    {
+        let n = self.n;
+        if n == 0 {
+            return 1;
+        }
+        let cells = Cells {
+            n,
+            lows: n,
+            highs: n + 1,
+        };
+        cells.count()
     }
-}
 
-// The cells over inputs 0 .. n-1, behind the header.
-fn put_input_cells(out: &mut [u32], n: u32, lows: u32, highs: u32, wires: &mut [u32])
-    requires le_n { (1 ≤ n) × (n ≤ 64) × (64 ≤ length wires.old) }
-    requires n_in_bounds { gate_place (length (cells (up_from 0 n) lows highs n)) ≤ length out.old }
-    ensures { out.new ≡ put_gates out.old header_words (cells (up_from 0 n) lows highs n) }
-{
-    put_wires(wires, 0, 0, n);
-    let end = n as usize;
-    put_cells(out, HEADER_WORDS, n, lows, highs, &wires[..end]);
-}
-
-// How many gates the one-hot netlist has.
-fn one_hot_count(n: u32) -> u32
-    requires { n ≤ 64 }
-    ensures { (result ≡ length (one_hot_net n).gates) × (result ≤ 10000) }
-{
-    if n == 0 {
-        return 1;
+    // What it has of each.
+    fn counts(self) -> Counts
+        ensures { (result ≡ net_counts (one_hot_net self.n)) × (result.gates ≤ 10000) }
+    {
+        Counts {
+            inputs: self.n,
+            gates: self.count(),
+            outputs: self.n + 1,
+        }
     }
-    count_cells(n, n, n + 1)
-}
 
-// What the one-hot netlist has of each.
-fn one_hot_counts(n: u32) -> Counts
-    requires { n ≤ 64 }
-    ensures { (result ≡ net_counts (one_hot_net n)) × (result.gates ≤ 10000) }
-{
-    let gates = one_hot_count(n);
-    Counts {
-        inputs: n,
-        gates,
-        outputs: n + 1,
+    fn put_gates(self, out: &mut [u32])
+        requires { gate_place (length (one_hot_net self.n).gates) ≤ length out.old }
+        ensures { out.new ≡ put_gates out.old header_words (one_hot_net self.n).gates }
+    {
+        let n = self.n;
+        if n == 0 {
+            put_gate(out, HEADER_WORDS, Gate::One);
+            return;
+        }
+        let cells = Cells {
+            n,
+            lows: n,
+            highs: n + 1,
+        };
+        cells.put(out);
     }
-}
 
-fn put_one_hot_gates(out: &mut [u32], n: u32, wires: &mut [u32])
-    requires n_bound { (n ≤ 64) × (64 ≤ length wires.old) }
-    requires n_in_bounds { gate_place (length (one_hot_net n).gates) ≤ length out.old }
-    ensures { out.new ≡ put_gates out.old header_words (one_hot_net n).gates }
-{
-    if n == 0 {
-        put_gate(out, HEADER_WORDS, netlist::gate::ONE_KIND, 0, 0, 0);
-        return;
+    // The last level's cells, which are the last wires of g gates' where there are two levels or more.
+    fn put_outs(self, out: &mut [u32], at: usize, g: u32)
+        requires { (g ≤ 10000) × (g ≡ length (one_hot_net self.n).gates) × (at + (self.n + 1) ≤ length out.old) }
+        ensures { out.new ≡ sets out.old at (one_hot_net self.n).outs }
+    {
+        let n = self.n;
+        if n == 1 {
+            out[at] = 1;
+            out[at + 1] = 0;
+            return;
+        }
+        put_wires(out, at, g - 1, n + 1);
     }
-    put_input_cells(out, n, n, n + 1, wires);
-}
 
-// The last level's cells, which are the last wires of g gates' where there are two levels or more.
-fn put_one_hot_outs(out: &mut [u32], at: usize, n: u32, g: u32)
-    requires { (n ≤ 64) × (g ≤ 10000) × (g ≡ length (one_hot_net n).gates) × (at + (n + 1) ≤ length out.old) }
-    ensures { out.new ≡ sets out.old at (one_hot_net n).outs }
-{
-    if n == 1 {
-        out[at] = 1;
-        out[at + 1] = 0;
-        return;
+    // The whole netlist, if there is room for it.
+    pub(crate) fn put(self, out: &mut [u32]) -> Answer
+        ensures { Emitted (one_hot_answer self.n (length out.old)) (one_hot_net self.n) out.old result out.new }
+    {
+        let counts = self.counts();
+        answer::room(out.len(), netlist::counts::word_count(counts), 1)?;
+        let g = counts.gates;
+        netlist::counts::put_header(out, counts);
+        self.put_gates(out);
+        self.put_outs(out, HEADER_WORDS + GATE_STRIDE * (g as usize), g);
+        Ok(())
     }
-    put_wires(out, at, g - 1, n + 1);
-}
-
-// The one-hot netlist of n inputs, if there is room for it.
-pub(crate) fn one_hot(n: u32, out: &mut [u32], wires: &mut [u32]) -> Answer
-    requires { (n ≤ 64) × (64 ≤ length wires.old) }
-    ensures { Emitted (one_hot_answer n (length out.old)) (one_hot_net n) out.old result out.new }
-{
-    let counts = one_hot_counts(n);
-    let r = answer::room(out.len(), netlist::counts::word_count(counts), 1);
-    let Answer::Done = r else {
-        return r;
-    };
-    let g = counts.gates;
-    netlist::counts::put_header(out, counts);
-    put_one_hot_gates(out, n, wires);
-    put_one_hot_outs(out, HEADER_WORDS + GATE_STRIDE * (g as usize), n, g);
-    Answer::Done
 }
 
 // 13: there is no threshold d of n.
+#[tactic(auto, using(crate::proofs::Shapes::shape_many, crate::proofs::Shapes::shape_zero, crate::proofs::Shapes::shape_last))]
 pub(crate) fn no_threshold(d: u32, n: u32) -> bool
     ensures { result ≡ no_threshold d n }
 {
-    if 64 < n {
-        return true;
-    }
-    if d == 0 {
-        return true;
-    }
-    n + 1 < d
+    64 < n || d == 0 || n + 1 < d
 }
 
-// How many gates threshold d of n has.
-fn threshold_count(d: u32, n: u32) -> u32
-    requires { (n ≤ 64) × (1 ≤ d) × (d ≤ n + 1) }
-    ensures { (result ≡ length (threshold_net d n).gates) × (result ≤ 10000) }
-{
-    if n < d {
-        return 1;
+impl Threshold {
+    // How many gates it has.
+    fn count(self) -> u32
+        ensures { (result ≡ length (threshold_net self.d self.n).gates) × (result ≤ 10000) }
+    {
+        let d = self.d;
+        let n = self.n;
+        if n < d {
+            return 1;
+        }
+        let cells = Cells {
+            n,
+            lows: n - d,
+            highs: d,
+        };
+        cells.count()
     }
-    count_cells(n, n - d, d)
-}
 
-// What threshold d of n has of each.
-fn threshold_counts(d: u32, n: u32) -> Counts
-    requires { (n ≤ 64) × (1 ≤ d) × (d ≤ n + 1) }
-    ensures { (result ≡ net_counts (threshold_net d n)) × (result.gates ≤ 10000) }
-{
-    let gates = threshold_count(d, n);
-    Counts {
-        inputs: n,
-        gates,
-        outputs: 1,
+    // What it has of each.
+    fn counts(self) -> Counts
+        ensures { (result ≡ net_counts (threshold_net self.d self.n)) × (result.gates ≤ 10000) }
+    {
+        Counts {
+            inputs: self.n,
+            gates: self.count(),
+            outputs: 1,
+        }
     }
-}
 
-fn put_threshold_gates(out: &mut [u32], d: u32, n: u32, wires: &mut [u32])
-    requires n_bound { (n ≤ 64) × (1 ≤ d) × (d ≤ n + 1) × (64 ≤ length wires.old) }
-    requires n_in_bounds { gate_place (length (threshold_net d n).gates) ≤ length out.old }
-    ensures { out.new ≡ put_gates out.old header_words (threshold_net d n).gates }
-{
-    if n < d {
-        put_gate(out, HEADER_WORDS, netlist::gate::ZERO_KIND, 0, 0, 0);
-        return;
+    fn put_gates(self, out: &mut [u32])
+        requires { gate_place (length (threshold_net self.d self.n).gates) ≤ length out.old }
+        ensures { out.new ≡ put_gates out.old header_words (threshold_net self.d self.n).gates }
+    {
+        let d = self.d;
+        let n = self.n;
+        if n < d {
+            put_gate(out, HEADER_WORDS, Gate::Zero);
+            return;
+        }
+        let cells = Cells {
+            n,
+            lows: n - d,
+            highs: d,
+        };
+        cells.put(out);
     }
-    put_input_cells(out, n, n - d, d, wires);
-}
 
-// Threshold d of n, if there is room for it. Its output is the last wire.
-pub(crate) fn threshold(d: u32, n: u32, out: &mut [u32], wires: &mut [u32]) -> Answer
-    requires { (no_threshold d n ≡ false) × (64 ≤ length wires.old) }
-    ensures { Emitted (threshold_answer d n (length out.old)) (threshold_net d n) out.old result out.new }
-{
-    let counts = threshold_counts(d, n);
-    let r = answer::room(out.len(), netlist::counts::word_count(counts), 1);
-    let Answer::Done = r else {
-        return r;
-    };
-    let g = counts.gates;
-    netlist::counts::put_header(out, counts);
-    put_threshold_gates(out, d, n, wires);
-    put_wires(out, HEADER_WORDS + GATE_STRIDE * (g as usize), n + g - 1, 1);
-    Answer::Done
+    // The whole netlist, if there is room for it. Its output is the last wire.
+    pub(crate) fn put(self, out: &mut [u32]) -> Answer
+        ensures { Emitted (threshold_answer self.d self.n (length out.old)) (threshold_net self.d self.n) out.old result out.new }
+    {
+        let counts = self.counts();
+        answer::room(out.len(), netlist::counts::word_count(counts), 1)?;
+        let n = self.n;
+        let g = counts.gates;
+        netlist::counts::put_header(out, counts);
+        self.put_gates(out);
+        put_wires(out, HEADER_WORDS + GATE_STRIDE * (g as usize), n + g - 1, 1);
+        Ok(())
+    }
 }

@@ -2,14 +2,14 @@
 use Prim.Native.Nat.{ℕ}
 use mathlib.Core.Path.{◌≡◌}
 use mathlib.Core.List.{List}
-use Rattle.answer.specs.declared.Answer.TheVariants.{Done}
+use Rattle.std.specs.Prelude.{Ok}
 use Rattle.answer.proofs.Rows.{first_done, then_done, both}
 use Rattle.answer.proofs.Judges.{length_done, done_length, bits_done, done_bits, room_done, done_room}
 use Rattle.netlist.proofs.Accepted.{done_sound, sound_done}
 use Rattle.evaluate.specs.Evaluate.{evaluate_answer}
 use Rattle.evaluate.specs.Ready.{Ready}
 
-pub done_ready : (net inputs : List ℕ) (v o : ℕ) → evaluate_answer net inputs v o ≡ Done → Ready net inputs v o
+pub done_ready : (net inputs : List ℕ) (v o : ℕ) → evaluate_answer net inputs v o ≡ Ok tt → Ready net inputs v o
 unfolding evaluate_answer
 done_ready net inputs v o e =
     let e1 = then_done _ _ e in
@@ -23,7 +23,7 @@ done_ready net inputs v o e =
       outputs = room_done 4 _ _ (then_done _ _ e3);
     }
 
-pub ready_done : (net inputs : List ℕ) (v o : ℕ) → Ready net inputs v o → evaluate_answer net inputs v o ≡ Done
+pub ready_done : (net inputs : List ℕ) (v o : ℕ) → Ready net inputs v o → evaluate_answer net inputs v o ≡ Ok tt
 unfolding evaluate_answer
 ready_done net inputs v o r =
     both (sound_done 1 net r.sound)

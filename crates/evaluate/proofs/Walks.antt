@@ -1,13 +1,12 @@
 -- The walks, step by step, and what they make of a sound netlist.
 use Prim.Native.Nat.{ℕ, ◌+◌, ◌<◌, ◌≤◌}
 use mathlib.Core.Path.{◌≡◌, sym, ap, ◌∙◌}
-use mathlib.Core.List.{List, [], ◌∷◌, ◌++◌, map}
+use mathlib.Core.List.{List, [], ◌∷◌, map}
 use native.Mathlib.Omega.{arith}
-use native.Mathlib.Numerals.{add-one}
-use lib.ListN.{length, get_or, set, take, drop, length-drop, length-map, length-take, take-append-drop}
-use lib.Seq.{length-take-le, take-suc, take_all, get_or-drop, get_or-take}
+use lib.ListN.{length, get_or, set, take, drop, length-take, take-append-drop}
+use lib.Seq.{length-take-le, get_or-drop, get_or-take}
 use Rattle.answer.specs.Fronts.{over}
-use Rattle.answer.proofs.Over.{over_none, over_next, over-at, length_over, take-over, over-over}
+use Rattle.answer.proofs.Over.{over_next, over-at, length_over, take-over, over-over}
 use Rattle.netlist.specs.declared.gate.Gate.{Gate}
 use Rattle.netlist.specs.Net.{Uses, at, step, run, val_alg, values, eval}
 use Rattle.netlist.specs.Words.{header_words, inputs_of, gates_of, outputs_of, gate_place, gate_at, gates_at, net_of}
@@ -15,11 +14,22 @@ use Rattle.netlist.proofs.Gates.{operands_low, taken_known}
 use Rattle.netlist.proofs.Sim.{run-append, run_length, step-front, each_map}
 use Rattle.answer.proofs.Judges.{bits-within}
 use Rattle.netlist.proofs.Bits.{Bits, run-bits}
-use Rattle.netlist.proofs.Glued.{map-append, map_agree}
+use Rattle.netlist.proofs.Glued.{map_agree}
 use Rattle.netlist.proofs.Words.{gates_length, gates_snoc, outs_length, sound_valid}
 use Rattle.evaluate.specs.Ready.{Ready}
-use Rattle.evaluate.specs.Inner.{truth_at, gates_put, outputs_put, GatesFit, OutputsFit}
+use Rattle.evaluate.specs.Inner.{truth_at, gates_put, GatesFit}
 use Rattle.evaluate.proofs.Readings.{truth_right}
+
+-- The operand words of a gate that fits are no later than its own wire.
+module _ {net : List ℕ} {I G : ℕ} {vals : List ℕ} (f : GatesFit net I G vals) (g : ℕ) (h : g < G) where
+  pub first_low : get_or net (gate_place g + 1) 0 ≤ I + g
+  first_low = (f.low g h).0
+
+  pub second_low : get_or net (gate_place g + 2) 0 ≤ I + g
+  second_low = (f.low g h).1
+
+  pub third_low : get_or net (gate_place g + 3) 0 ≤ I + g
+  third_low = (f.low g h).2
 
 -- The gates.
 module _ (net : List ℕ) (I : ℕ) (vals : List ℕ) where
@@ -71,30 +81,6 @@ module _ (net : List ℕ) (I : ℕ) (vals : List ℕ) where
       rw (w, k, e)
       (ap (set (gates_put net I n vals) (I + n)) (value_right G n f h) ∙ gates_more n (omega (arith, f.room)) (f.uses n h))
 
--- The outputs.
-module _ (net vals : List ℕ) (start : ℕ) (outs : List ℕ) where
-  wires : (n : ℕ) → start + n ≤ length net → length (map (at val_alg vals) (take n (drop start net))) ≡ n
-  wires n h =
-      length-map (take n (drop start net)) (at val_alg vals)
-      ∙ length-take-le n (drop start net) (omega (arith, length-drop start net))
-
-  pub outputs_none : outs ≡ outputs_put net vals start 0 outs
-  unfolding outputs_put
-  outputs_none = sym (over_none outs)
-
-  pub outputs_more : (n : ℕ) → start + n < length net → n < length outs
-      → set (outputs_put net vals start n outs) n (get_or vals (get_or net (start + n) 0) 0) ≡ outputs_put net vals start (n + 1) outs
-  unfolding outputs_put
-  outputs_more n h l =
-      let f = at val_alg vals in
-      let d = drop start net in
-      let e : take (n + 1) d ≡ take n d ++ get_or net (start + n) 0 ∷ [] =
-      ap (λ (k : ℕ). take k d) (add-one n)
-      ∙ take-suc d n 0 (omega (arith, length-drop start net))
-      ∙ ap (λ (w : ℕ). take n d ++ w ∷ []) (get_or-drop start net n 0) in
-      over_next (map f (take n d)) outs n (f (get_or net (start + n) 0)) (wires n (omega arith)) l
-      ∙ ap (λ (t : List ℕ). over t outs) (sym (ap (map f) e ∙ map-append f (take n d) (get_or net (start + n) 0 ∷ [])))
-
 -- All of them, on a sound netlist.
 module _ (net inputs : List ℕ) (v o : ℕ) (r : Ready net inputs v o) where
   pub gates_fit : (vals : List ℕ) {x : List ℕ} → length vals ≡ v → x ≡ over inputs vals → GatesFit net (inputs_of net) (gates_of net) x
@@ -110,13 +96,12 @@ module _ (net inputs : List ℕ) (v o : ℕ) (r : Ready net inputs v o) where
         bits = λ i h. let k : i < length inputs = omega (arith, r.count) in rw (over-at inputs vals i k) (r.bits i k);
       }
 
-  pub outputs_fit : (n m : ℕ) → n ≡ v → m ≡ o → OutputsFit net (gate_place (gates_of net)) (outputs_of net) n m
-  outputs_fit n m e f =
-      record {
-        words = omega (arith, r.sound.size);
-        wires = λ k h. omega (arith, r.sound.output k h, r.values);
-        room = omega (arith, r.outputs);
-      }
+  pub outputs_fit : {n m : ℕ} → n ≡ v → m ≡ o → (length (net_of net).outs ≤ m) × ((k : ℕ) → k < length (net_of net).outs → get_or (net_of net).outs k 0 < n)
+  outputs_fit e f =
+      let long = outs_length net r.sound in (
+        omega (arith, long, r.outputs),
+        λ k h. let l : k < outputs_of net = omega (arith, long) in rw (get_or-drop (gate_place (gates_of net)) net k 0) (omega (arith, r.sound.output k l, r.values)),
+      )
 
   -- the values x after the inputs' walk and y after the gates', and the outputs z after the last
   pub all-values : (vals : List ℕ) {x y : List ℕ} → x ≡ over inputs vals → y ≡ gates_put net (inputs_of net) (gates_of net) x
@@ -128,13 +113,10 @@ module _ (net inputs : List ℕ) (v o : ℕ) (r : Ready net inputs v o) where
       rw (f, e, t) (over-over inputs (run val_alg inputs gs) vals (omega (arith, run_length val_alg inputs gs)))
 
   pub all_outputs : (vals outs : List ℕ) {y z : List ℕ} → y ≡ over (values (net_of net) inputs) vals
-      → z ≡ outputs_put net y (gate_place (gates_of net)) (outputs_of net) outs → z ≡ over (eval (net_of net) inputs) outs
-  unfolding outputs_put
+      → z ≡ over (map (at val_alg y) (net_of net).outs) outs → z ≡ over (eval (net_of net) inputs) outs
   all_outputs vals outs e f =
       let w = values (net_of net) inputs in
-      let os = (net_of net).outs in
-      let all : take (outputs_of net) os ≡ os = take_all (outputs_of net) os (omega (arith, outs_length net r.sound)) in
-      rw (f, e, all)
+      rw (f, e)
       (ap (λ (t : List ℕ). over t outs)
-      (map_agree _ _ _ os (sound_valid net r.sound).outs
+      (map_agree _ _ _ (net_of net).outs (sound_valid net r.sound).outs
       (λ i h. over-at w vals i (omega (arith, run_length val_alg inputs (net_of net).gates, r.count)))))

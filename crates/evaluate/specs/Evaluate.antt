@@ -1,8 +1,7 @@
 -- Evaluation of a netlist on bits in the clear. docs/RULES.md, "Netlists": a value for every wire, then the outputs.
 -- Lists: 1 the netlist, 2 the inputs, 3 the values, 4 the outputs.
 use Rattle.std.specs.Prelude.{ℕ, ◌+◌, ◌≡◌, List, length}
-use Rattle.answer.specs.declared.Answer.{Answer}
-use Rattle.answer.specs.Answers.{◌▹◌}
+use Rattle.answer.specs.Answers.{Answer, ◌▹◌}
 use Rattle.answer.specs.Bits.{bits_answer}
 use Rattle.answer.specs.Judges.{length_answer, room_answer}
 use Rattle.answer.specs.Fronts.{left}

@@ -1,11 +1,10 @@
--- Inner: only contracts of private functions cite this. A gate's values as one number; the walks over the gates and the
--- outputs: what each has written after n of them, and what it asks.
-use Rattle.std.specs.Prelude.{ℕ, ◌+◌, ◌*◌, ◌/◌, ◌%◌, ◌^◌, ◌<◌, ◌≤◌, ◌≡◌, List, map, length, get_or, take, drop}
+-- Inner: only contracts of private functions cite this. A gate's values as one number; the walk over the gates: what it has
+-- written after n of them, and what it asks.
+use Rattle.std.specs.Prelude.{ℕ, ◌+◌, ◌*◌, ◌/◌, ◌%◌, ◌^◌, ◌<◌, ◌≤◌, ◌≡◌, List, length, get_or, take, Some}
 use Rattle.answer.specs.Fronts.{over}
-use Rattle.netlist.specs.Net.{Uses, at, run, val_alg}
+use Rattle.netlist.specs.Net.{Uses, run, val_alg}
 use Rattle.netlist.specs.declared.gate.Gate.{Gate}
 use Rattle.netlist.specs.declared.gate.Gate.TheVariants.{Zero, One, Not, Xor, And, Mux}
-use Rattle.netlist.specs.declared.gate.Taken.TheVariants.{Known}
 use Rattle.netlist.specs.Words.{header_words, gate_place, taken_at, gate_at, gates_at}
 
 -- a gate's values: bit x + 2y + 4z is the value where a, b and c carry x, y and z
@@ -25,23 +24,12 @@ truth_at g x y z = truth_of g / 2 ^ (x % 2 + 2 * (y % 2) + 4 * (z % 2)) % 2
 unfoldable pub gates_put : List ℕ → ℕ → ℕ → List ℕ → List ℕ
 gates_put net I n vals = over (run val_alg (take I vals) (gates_at net header_words n)) vals
 
--- the values of the first n outputs at the front of outs; the output wires begin at word start
-unfoldable pub outputs_put : List ℕ → List ℕ → ℕ → ℕ → List ℕ → List ℕ
-outputs_put net vals start n outs = over (map (at val_alg vals) (take n (drop start net))) outs
-
 -- The words of G gates are there, each of a known kind and over earlier wires, its three operand words no later than the
 -- gate's own; the values have room, and bits at the inputs.
 pub record GatesFit (net : List ℕ) (I G : ℕ) (vals : List ℕ) : Type 0 where
   pub words : gate_place G ≤ length net
-  pub known : (g : ℕ) → g < G → taken_at net (gate_place g) ≡ Known (gate_at net (gate_place g))
+  pub known : (g : ℕ) → g < G → taken_at net (gate_place g) ≡ Some (gate_at net (gate_place g))
   pub uses : (g : ℕ) → g < G → Uses (I + g) (gate_at net (gate_place g))
   pub low : (g : ℕ) → g < G → (get_or net (gate_place g + 1) 0 ≤ I + g) × (get_or net (gate_place g + 2) 0 ≤ I + g) × (get_or net (gate_place g + 3) 0 ≤ I + g)
   pub room : I + G ≤ length vals
   pub bits : (i : ℕ) → i < I → get_or vals i 0 ≤ 1
-
--- The words of the outputs are there, each a wire, and there is room, where v and o words are lent for the values and the
--- outputs.
-pub record OutputsFit (net : List ℕ) (start count v o : ℕ) : Type 0 where
-  pub words : start + count ≤ length net
-  pub wires : (k : ℕ) → k < count → get_or net (start + k) 0 < v
-  pub room : count ≤ o

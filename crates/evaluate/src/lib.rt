@@ -2,13 +2,15 @@
 // outputs. Judged 9, 3, 4, 8; the lists are the netlist, the inputs, the values and the outputs.
 #![tactic(auto)]
 
-ghost use Rattle.std.specs.Prelude.{◌≡◌, ◌≤◌, length};
+ghost use Rattle.std.specs.Prelude.{◌≡◌, ◌<◌, ◌≤◌, ℕ, map, length, get_or};
 ghost use Rattle.answer.specs.Fronts.{over};
+ghost use Rattle.netlist.specs.Net.{at, val_alg};
 ghost use Rattle.evaluate.specs.Evaluate.{evaluate_answer, Evaluated};
-ghost use Rattle.evaluate.specs.Inner.{truth_of, truth_at, gates_put, outputs_put, GatesFit, OutputsFit};
+ghost use Rattle.evaluate.specs.Inner.{truth_of, truth_at, gates_put, GatesFit};
 
 use answer::Answer;
-use netlist::gate::{Gate, Taken};
+use netlist::counts::counts_of;
+use netlist::gate::Gate;
 use netlist::{GATE_STRIDE, HEADER_WORDS};
 
 // A gate's values as one number: bit x + 2y + 4z of it is the value where a, b and c carry x, y and z. Read
@@ -27,38 +29,35 @@ fn truth(gate: Gate) -> u8
 }
 
 // What a gate makes of x, y and z on its operand words; those that it does not use do not count.
+#[tactic(auto, unfolding(crate::specs::Inner::truth_at))]
 fn value(gate: Gate, x: u8, y: u8, z: u8) -> u8
     ensures { result ≡ truth_at gate x y z }
 {
     (truth(gate) >> (x % 2 + 2 * (y % 2) + 4 * (z % 2))) % 2
 }
 
-// The inputs' values, at the front.
+// The inputs' values, at the front. It asks for room, which a public function may not: glue has its own, for words.
+#[tactic(auto, unfolding(answer::specs::Fronts::over))]
 fn put_inputs(inputs: &[u8], values: &mut [u8])
     requires { length inputs.now ≤ length values.old }
     ensures { values.new ≡ over inputs.now values.old }
 {
-    let mut i: usize = 0;
-    while i < inputs.len() {
-        values[i] = inputs[i];
-        i += 1;
-    }
+    values[..inputs.len()].copy_from_slice(inputs);
 }
 
 // The gates' values, after those of the inputs, which stand. In an accepted netlist every kind is known: the
-// walk does not end at one that is not.
+// walk does not end at one that is not. inputs and gates are two of its counts, as places of lists, and read once.
+#[tactic(auto, using(crate::proofs::Walks::first_low, crate::proofs::Walks::second_low, crate::proofs::Walks::third_low))]
 fn put_gates(net: &[u32], values: &mut [u8], inputs: usize, gates: usize)
     requires { GatesFit net.now inputs gates values.old }
     ensures { values.new ≡ gates_put net.now inputs gates values.old }
 {
-    let mut g: usize = 0;
-    while g < gates {
+    for g in 0..gates {
         let at = HEADER_WORDS + GATE_STRIDE * g;
         let a = net[at + 1];
         let b = net[at + 2];
         let c = net[at + 3];
-        let t = netlist::gate::take_apart(net[at], a, b, c);
-        let Taken::Known(gate) = t else {
+        let Some(gate) = netlist::gate::take_apart(net[at], a, b, c) else {
             return;
         };
         let i = a as usize;
@@ -67,46 +66,31 @@ fn put_gates(net: &[u32], values: &mut [u8], inputs: usize, gates: usize)
         let v = value(gate, values[i], values[j], values[k]);
         let wire = inputs + g;
         values[wire] = v;
-        g += 1;
     }
 }
 
-// The outputs' values, where every wire's value stands. The output wires begin at word start.
-fn put_outputs(net: &[u32], values: &[u8], outputs: &mut [u8], start: usize, count: usize)
-    requires { OutputsFit net.now start count (length values.now) (length outputs.old) }
-    ensures { outputs.new ≡ outputs_put net.now values.now start count outputs.old }
+// The values of some output wires, where every wire's value stands.
+fn put_outputs(wires: &[u32], values: &[u8], outputs: &mut [u8])
+    requires { (length wires.now ≤ length outputs.old) × ((k : ℕ) → k < length wires.now → get_or wires.now k 0 < length values.now) }
+    ensures { outputs.new ≡ over (map (at val_alg values.now) wires.now) outputs.old }
 {
-    let mut o: usize = 0;
-    while o < count {
-        let wire = net[start + o] as usize;
-        outputs[o] = values[wire];
-        o += 1;
+    for (o, &wire) in wires.iter().enumerate() {
+        outputs[o] = values[wire as usize];
     }
 }
 
 // 9, 3, 4, then 8 of the values and of the outputs.
+#[tactic(auto, using(answer::proofs::Rows::stop, answer::proofs::Rows::go), unfolding(crate::specs::Evaluate::evaluate_answer))]
 fn judge(net: &[u32], inputs: &[u8], value_room: usize, output_room: usize) -> Answer
     ensures { result ≡ evaluate_answer net.now inputs.now value_room output_room }
 {
-    let checked = netlist::check::check_as(net, 1);
-    let Answer::Done = checked else {
-        return checked;
-    };
-    let c = netlist::counts::counts_of(net);
+    netlist::check::check_as(net, 1)?;
+    let c = counts_of(net);
     let i = c.inputs as usize;
     let g = c.gates as usize;
-    let counted = answer::exact(inputs.len(), i, 2);
-    let Answer::Done = counted else {
-        return counted;
-    };
-    let bits = answer::bits(inputs, 2);
-    let Answer::Done = bits else {
-        return bits;
-    };
-    let fits = answer::room(value_room, i + g, 3);
-    let Answer::Done = fits else {
-        return fits;
-    };
+    answer::exact(inputs.len(), i, 2)?;
+    answer::bits(inputs, 2)?;
+    answer::room(value_room, i + g, 3)?;
     answer::room(output_room, c.outputs as usize, 4)
 }
 
@@ -114,16 +98,12 @@ fn judge(net: &[u32], inputs: &[u8], value_room: usize, output_room: usize) -> A
 pub fn evaluate(net: &[u32], inputs: &[u8], values: &mut [u8], outputs: &mut [u8]) -> Answer
     ensures { Evaluated net.now inputs.now values.old outputs.old result values.new outputs.new }
 {
-    let r = judge(net, inputs, values.len(), outputs.len());
-    let Answer::Done = r else {
-        return r;
-    };
-    let c = netlist::counts::counts_of(net);
+    judge(net, inputs, values.len(), outputs.len())?;
+    let c = counts_of(net);
     let i = c.inputs as usize;
     let g = c.gates as usize;
-    let o = c.outputs as usize;
     put_inputs(inputs, values);
     put_gates(net, values, i, g);
-    put_outputs(net, values, outputs, HEADER_WORDS + GATE_STRIDE * g, o);
-    Answer::Done
+    put_outputs(&net[HEADER_WORDS + GATE_STRIDE * g..], values, outputs);
+    Ok(())
 }

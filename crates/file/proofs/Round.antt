@@ -7,17 +7,15 @@ use mathlib.Core.List.{List}
 use native.Mathlib.Omega.{arith}
 use lib.ListN.{length, take}
 use borrow.Author.Tests.{le-ltb, eq-eqb}
-use Rattle.answer.specs.declared.Answer.{Answer}
-use Rattle.answer.specs.declared.Answer.TheVariants.{Done, Refused}
-use Rattle.answer.specs.Answers.{◌▹◌, refuse, number_of}
+use Rattle.std.specs.Prelude.{Ok, Option, Some, None}
+use Rattle.answer.specs.declared.Reason.TheVariants.{File, Netlist}
+use Rattle.answer.specs.Answers.{Answer, refused, ◌▹◌, refuse, number_of}
 use Rattle.answer.specs.Fronts.{over, left}
 use Rattle.answer.proofs.Every.{row_has, refuse_has, each_has}
 use Rattle.answer.proofs.Rows.{first_done, then_done, both, refuse_not}
 use Rattle.answer.proofs.Judges.{done_room}
 use Rattle.answer.proofs.Over.{take-over}
 use Rattle.netlist.specs.declared.counts.Counts.{Counts}
-use Rattle.netlist.specs.declared.gate.Taken.{Taken}
-use Rattle.netlist.specs.declared.gate.Taken.TheVariants.{Known, Unknown}
 use Rattle.netlist.specs.Gates.{taken_of}
 use Rattle.netlist.specs.Words.{header_words, counts_of, gates_of, outputs_of, word_count}
 use Rattle.netlist.specs.Check.{operand_answer, taken_answer, words_answer, counts_answer, wires_answer, net_answer}
@@ -33,6 +31,7 @@ use Rattle.file.specs.Bytes.{Bytes}
 use Rattle.file.specs.File.{gate_bytes, file_of, write_answer, ReadAs, WrittenAs}
 use Rattle.file.proofs.Written.{gate_length, file_length, limits_done, words_back, check_written, room_written}
 use Rattle.file.proofs.Again.{file_again}
+use Rattle.netlist.specs.declared.gate.Gate.{Gate}
 
 -- ---- the check beside the reading
 
@@ -45,18 +44,18 @@ pub check_as_read : (form : Form) (s result : List ℕ) {r : Answer} {result' : 
     → word_count (counts_in s) ≤ length result → r ≡ check_answer form s
 check_as_read form s result a h = a.answered ∙ room_check form s (length result) h
 
--- a check answers Done, or 9 or 12 on list 1: what these have, it has
-module _ (P : Answer → Type 0) (d : P Done) (x9 : (p : ℕ) → P (Refused 9 1 p)) (x12 : (p : ℕ) → P (Refused 12 1 p)) where
-  refuse9 : (p : ℕ) (b : Bool) → P (refuse 9 1 p b)
-  refuse9 p b = refuse_has P d 9 1 p b (x9 p)
+-- a check answers done, or 9 or 12 on list 1: what these have, it has
+module _ (P : Answer → Type 0) (d : P (Ok tt)) (x9 : (p : ℕ) → P (refused Netlist 1 p)) (x12 : (p : ℕ) → P (refused File 1 p)) where
+  refuse9 : (p : ℕ) (b : Bool) → P (refuse Netlist 1 p b)
+  refuse9 p b = refuse_has P d Netlist 1 p b (x9 p)
 
-  refuse12 : (p : ℕ) (b : Bool) → P (refuse 12 1 p b)
-  refuse12 p b = refuse_has P d 12 1 p b (x12 p)
+  refuse12 : (p : ℕ) (b : Bool) → P (refuse File 1 p b)
+  refuse12 p b = refuse_has P d File 1 p b (x12 p)
 
-  taken_has : (t : Taken) (a b c w p : ℕ) → P (taken_answer t a b c w 1 p)
+  taken_has : (t : Option Gate) (a b c w p : ℕ) → P (taken_answer t a b c w 1 p)
   unfolding taken_answer operand_answer
-  taken_has Unknown a b c w p = x9 p
-  taken_has (Known g) a b c w p = row_has P _ _ (refuse9 _ _) (row_has P _ _ (refuse9 _ _) (refuse9 _ _))
+  taken_has None a b c w p = x9 p
+  taken_has (Some g) a b c w p = row_has P _ _ (refuse9 _ _) (row_has P _ _ (refuse9 _ _) (refuse9 _ _))
 
   words_has : (k a b c w p : ℕ) → P (words_answer k a b c w 1 p)
   unfolding words_answer
@@ -90,56 +89,56 @@ check_never_8 = check_has (λ a. number_of a ≡ 8 → ⊥) (λ e. omega arith) 
 
 -- ---- what was read is a netlist
 
-net_done : (l : ℕ) (ws : List ℕ) → length ws ≡ word_count (counts_of ws) → Limits (counts_of ws) → wires_answer l ws (counts_of ws) ≡ Done → net_answer l ws ≡ Done
+net_done : (l : ℕ) (ws : List ℕ) → length ws ≡ word_count (counts_of ws) → Limits (counts_of ws) → wires_answer l ws (counts_of ws) ≡ Ok tt → net_answer l ws ≡ Ok tt
 unfolding net_answer
 net_done l ws e m w =
     let h : header_words ≤ length ws = omega arith in
     both (refuse_not _ _ _ (le-ltb _ _ h)) (both (limits_done l _ m) (both (refuse_not _ _ _ (ap not (eq-eqb _ _ e))) w))
 
-check_net : (form : Form) (s : List ℕ) → check_answer form s ≡ Done → net_answer 1 (words_in form s) ≡ Done
+check_net : (form : Form) (s : List ℕ) → check_answer form s ≡ Ok tt → net_answer 1 (words_in form s) ≡ Ok tt
 unfolding check_answer body_answer words_in
 check_net form s e =
     net_done 1 (words_in form s) (words-length form s) (check_framed form s e).limits (then_done _ _ (then_done _ _ e))
 
 -- the words in an accepted file are sound
-pub check_sound : (form : Form) (s : List ℕ) → check_answer form s ≡ Done → Sound (words_in form s)
+pub check_sound : (form : Form) (s : List ℕ) → check_answer form s ≡ Ok tt → Sound (words_in form s)
 check_sound form s e = done_sound 1 (words_in form s) (check_net form s e)
 
-pub read_sound : (form : Form) (s result : List ℕ) {r : Answer} {result' : List ℕ} → ReadAs form s result r result' → r ≡ Done → Sound (words_in form s)
+pub read_sound : (form : Form) (s result : List ℕ) {r : Answer} {result' : List ℕ} → ReadAs form s result r result' → r ≡ Ok tt → Sound (words_in form s)
 read_sound form s result a d = check_sound form s (read_done form s (length result) (sym a.answered ∙ d)).0
 
 -- ---- the two trips
 
-written_sound : (form : Form) (net : List ℕ) (n : ℕ) → write_answer form net n ≡ Done → Sound net
+written_sound : (form : Form) (net : List ℕ) (n : ℕ) → write_answer form net n ≡ Ok tt → Sound net
 unfolding write_answer
 written_sound form net n e = done_sound 1 net (first_done _ _ e)
 
-front : (r : Answer) (new old : List ℕ) {now : List ℕ} → r ≡ Done → now ≡ left r new old → take (length new) now ≡ new
+front : (r : Answer) (new old : List ℕ) {now : List ℕ} → r ≡ Ok tt → now ≡ left r new old → take (length new) now ≡ new
 unfolding left
 front r new old d e = rw (e, d) (take-over new old)
 
 -- a netlist written into out, and the front of out read into result: the netlist stands there
-pub written_then_read : (form : Form) (net out result : List ℕ) {w r : Answer} {out' result' : List ℕ} → WrittenAs form net out w out' → w ≡ Done
+pub written_then_read : (form : Form) (net out result : List ℕ) {w r : Answer} {out' result' : List ℕ} → WrittenAs form net out w out' → w ≡ Ok tt
     → length net ≤ length result → ReadAs form (take (length (file_of form net)) out') result r result'
-    → (r ≡ Done) × (result' ≡ over net result)
+    → (r ≡ Ok tt) × (result' ≡ over net result)
 unfolding left
 written_then_read form net out result {w} {r} {out'} {result'} a d h b =
     let s = written_sound form net (length out) (sym a.answered ∙ d) in
     let f : take (length (file_of form net)) out' ≡ file_of form net = front w (file_of form net) out d a.written in
     let room : word_count (counts_in (file_of form net)) ≤ length result = omega (arith, room_written form net s) in
-    let k : r ≡ Done = b.answered ∙ rw f (room_check form (file_of form net) (length result) room ∙ check_written form net s) in
+    let k : r ≡ Ok tt = b.answered ∙ rw f (room_check form (file_of form net) (length result) room ∙ check_written form net s) in
     (k, b.written ∙ rw (k, f, words_back form net s))
 
 -- a file read into result, and the front of result written into out: the file stands there
-pub read_then_written : (form : Form) (s result out : List ℕ) {r w : Answer} {result' out' : List ℕ} → Bytes s → ReadAs form s result r result' → r ≡ Done
+pub read_then_written : (form : Form) (s result out : List ℕ) {r w : Answer} {result' out' : List ℕ} → Bytes s → ReadAs form s result r result' → r ≡ Ok tt
     → length s ≤ length out → WrittenAs form (take (length (words_in form s)) result') out w out'
-    → (w ≡ Done) × (out' ≡ over s out)
+    → (w ≡ Ok tt) × (out' ≡ over s out)
 unfolding left write_answer
 read_then_written form s result out {r} {w} {result'} {out'} b a d h c =
     let e = (read_done form s (length result) (sym a.answered ∙ d)).0 in
     let f : take (length (words_in form s)) result' ≡ words_in form s = front r (words_in form s) result d a.written in
     let g : file_of form (words_in form s) ≡ s = file_again form s b (check_framed form s e) in
-    let k : w ≡ Done = c.answered ∙ rw (f, g) (both (check_net form s e) (done_room 2 _ _ h)) in
+    let k : w ≡ Ok tt = c.answered ∙ rw (f, g) (both (check_net form s e) (done_room 2 _ _ h)) in
     (k, c.written ∙ rw (k, f, g))
 
 -- how long a file is

@@ -3,9 +3,9 @@ use Prim.Native.Nat.{ℕ}
 use mathlib.Core.Path.{◌≡◌, refl, ◌∙◌}
 use mathlib.Core.List.{List, [], ◌∷◌}
 use lib.ListN.{length}
-use Rattle.answer.specs.declared.Answer.{Answer}
-use Rattle.answer.specs.declared.Answer.TheVariants.{Done, Refused}
-use Rattle.answer.specs.Answers.{◌▹◌, refuse, each}
+use Rattle.std.specs.Prelude.{Ok}
+use Rattle.answer.specs.declared.Reason.TheVariants.{File, Netlist}
+use Rattle.answer.specs.Answers.{Answer, refused, ◌▹◌, refuse, each}
 use Rattle.answer.specs.Fronts.{over, left}
 use Rattle.answer.specs.Judges.{room_answer}
 use Rattle.netlist.specs.Gates.{taken_of}
@@ -32,44 +32,44 @@ pub pass-words : words_in Full pass_file ≡ pass
 unfolding word_at joined size_at start_of out_word words_in
 pass-words = refl
 
-pass_writes : write_answer Full pass 20 ≡ Done
+pass_writes : write_answer Full pass 20 ≡ Ok tt
 unfolding ◌▹◌ refuse each net_answer little joined mark_of words_bytes head_bytes out_bytes file_of room_answer write_answer
 pass_writes = refl
 
-pass_reads : read_answer Full pass_file 4 ≡ Done
+pass_reads : read_answer Full pass_file 4 ≡ Ok tt
 unfolding ◌▹◌ refuse each word_at joined mark_of record_begins size_at start_of out_word words_in record_answer gate_record out_record outs_answer records_answer head_answer room_answer body_answer read_answer
 pass_reads = refl
 
 -- the calls, lent just the room that they need
-pub pass-written : (out : List ℕ) {r : Answer} {out' : List ℕ} → WrittenAs Full pass out r out' → length out ≡ 20 → (r ≡ Done) × (out' ≡ over pass_file out)
+pub pass-written : (out : List ℕ) {r : Answer} {out' : List ℕ} → WrittenAs Full pass out r out' → length out ≡ 20 → (r ≡ Ok tt) × (out' ≡ over pass_file out)
 unfolding left
 pass-written out {r} a e =
-    let k : r ≡ Done = a.answered ∙ rw e pass_writes in
+    let k : r ≡ Ok tt = a.answered ∙ rw e pass_writes in
     (k, a.written ∙ rw (k, pass_bytes))
 
-pub pass_read : (out : List ℕ) {r : Answer} {out' : List ℕ} → ReadAs Full pass_file out r out' → length out ≡ 4 → (r ≡ Done) × (out' ≡ over pass out)
+pub pass_read : (out : List ℕ) {r : Answer} {out' : List ℕ} → ReadAs Full pass_file out r out' → length out ≡ 4 → (r ≡ Ok tt) × (out' ≡ over pass out)
 unfolding left
 pass_read out {r} a e =
-    let k : r ≡ Done = a.answered ∙ rw e pass_reads in
+    let k : r ≡ Ok tt = a.answered ∙ rw e pass_reads in
     (k, a.written ∙ rw (k, pass-words))
 
 -- a byte left over after 14
-pub rest : check_answer Full (0x4E ∷ 0x48 ∷ 1 ∷ 0 ∷ 0 ∷ 0 ∷ 0 ∷ 0 ∷ 0 ∷ 0 ∷ 0 ∷ 0 ∷ 0 ∷ 0 ∷ 9 ∷ []) ≡ Refused 12 1 14
+pub rest : check_answer Full (0x4E ∷ 0x48 ∷ 1 ∷ 0 ∷ 0 ∷ 0 ∷ 0 ∷ 0 ∷ 0 ∷ 0 ∷ 0 ∷ 0 ∷ 0 ∷ 0 ∷ 9 ∷ []) ≡ refused File 1 14
 unfolding ◌▹◌ refuse each word_at joined mark_of record_begins size_at start_of words_in record_answer outs_answer records_answer head_answer body_answer check_answer
 rest = refl
 
 -- a header cut by one byte; another mark
-pub cut : check_answer Full (0x4E ∷ 0x48 ∷ 1 ∷ 0 ∷ 0 ∷ 0 ∷ 0 ∷ 0 ∷ 0 ∷ 0 ∷ 0 ∷ 0 ∷ 0 ∷ []) ≡ Refused 12 1 0
+pub cut : check_answer Full (0x4E ∷ 0x48 ∷ 1 ∷ 0 ∷ 0 ∷ 0 ∷ 0 ∷ 0 ∷ 0 ∷ 0 ∷ 0 ∷ 0 ∷ 0 ∷ []) ≡ refused File 1 0
 unfolding ◌▹◌ refuse mark_of record_begins record_answer head_answer check_answer
 cut = refl
 
-pub other_mark : check_answer Full (0x4E ∷ 0x32 ∷ 1 ∷ 0 ∷ 0 ∷ 0 ∷ 0 ∷ 0 ∷ 0 ∷ 0 ∷ 0 ∷ 0 ∷ 0 ∷ 0 ∷ []) ≡ Refused 12 1 0
+pub other_mark : check_answer Full (0x4E ∷ 0x32 ∷ 1 ∷ 0 ∷ 0 ∷ 0 ∷ 0 ∷ 0 ∷ 0 ∷ 0 ∷ 0 ∷ 0 ∷ 0 ∷ 0 ∷ []) ≡ refused File 1 0
 unfolding ◌▹◌ refuse mark_of record_begins record_answer head_answer check_answer
 other_mark = refl
 
 -- NOT of its own wire: 9 at word 4, its operand's
 pub own_wire : check_answer Full
     (0x4E ∷ 0x48 ∷ 1 ∷ 0 ∷ 0 ∷ 0 ∷ 1 ∷ 0 ∷ 0 ∷ 0 ∷ 0 ∷ 0 ∷ 0 ∷ 0
-    ∷ 0x4E ∷ 0x47 ∷ 2 ∷ 1 ∷ 0 ∷ 0 ∷ 0 ∷ 0 ∷ 0 ∷ 0 ∷ 0 ∷ 0 ∷ 0 ∷ 0 ∷ 0 ∷ []) ≡ Refused 9 1 4
+    ∷ 0x4E ∷ 0x47 ∷ 2 ∷ 1 ∷ 0 ∷ 0 ∷ 0 ∷ 0 ∷ 0 ∷ 0 ∷ 0 ∷ 0 ∷ 0 ∷ 0 ∷ 0 ∷ []) ≡ refused Netlist 1 4
 unfolding ◌▹◌ refuse each taken_of operand_answer taken_answer words_answer word_at joined mark_of width_of record_begins size_at start_of operand_at four_in words_in record_answer gate_record outs_answer records_answer head_answer body_answer check_answer
 own_wire = refl

@@ -9,7 +9,7 @@ use lib.ListN.{length, get_or, length-append, get_or-append}
 use lib.Seq.{get_or-append-add}
 use lib.Dec.{ltb}
 use borrow.Author.Tests.{ltb-true, le-ltb}
-use Rattle.answer.specs.declared.Answer.TheVariants.{Done}
+use Rattle.std.specs.Prelude.{Ok}
 use Rattle.answer.specs.Choose.{choose}
 use Rattle.answer.proofs.Rows.{then_done, both, refuse_not, each_done}
 use Rattle.netlist.specs.declared.counts.Counts.{Counts}
@@ -89,16 +89,16 @@ head_part : (ws : List ℕ) → header (counts_of ws) ≡ part ws 0 header_words
 unfolding part
 head_part ws = refl
 
-record_done : (s : List ℕ) (p letter size : ℕ) → p + size ≤ length s → get_or s p 0 ≡ byte_n → get_or s (p + 1) 0 ≡ letter → record_answer s p letter size ≡ Done
+record_done : (s : List ℕ) (p letter size : ℕ) → p + size ≤ length s → get_or s p 0 ≡ byte_n → get_or s (p + 1) 0 ≡ letter → record_answer s p letter size ≡ Ok tt
 unfolding record_answer
 record_done s p letter size h a b = refuse_not _ _ _ (ap not (begins_yes s p letter size h a b))
 
-pub limits_done : (l : ℕ) (c : Counts) → Limits c → counts_answer l c ≡ Done
+pub limits_done : (l : ℕ) (c : Counts) → Limits c → counts_answer l c ≡ Ok tt
 limits_done l c s =
     both (refuse_not _ _ _ (le-ltb _ _ s.inputs))
     (both (refuse_not _ _ _ (le-ltb _ _ s.gates)) (refuse_not _ _ _ (le-ltb _ _ s.outputs)))
 
-wires_done : (l : ℕ) (ws : List ℕ) → Sound ws → wires_answer l ws (counts_of ws) ≡ Done
+wires_done : (l : ℕ) (ws : List ℕ) → Sound ws → wires_answer l ws (counts_of ws) ≡ Ok tt
 unfolding net_answer
 wires_done l ws s = then_done _ _ (then_done _ _ (then_done _ _ (sound_done l ws s)))
 
@@ -266,7 +266,7 @@ module _ (form : Form) (ws : List ℕ) where
         ap₂ ◌++◌ (ap₂ ◌++◌ h (ap (λ n. joined n (four_in form s)) (gates_back))) (ap (λ n. joined n outs) (outputs_back))
         ∙ rw (g, ← z, o) (part-all ws (gate_place G + 1 * O) (omega (arith, sound.size)))
 
-    gate_done : (g : ℕ) → g < gates_of ws → gate_record form (file_of form ws) g ≡ Done
+    gate_done : (g : ℕ) → g < gates_of ws → gate_record form (file_of form ws) g ≡ Ok tt
     unfolding gate_record size_at
     gate_done g h =
         rw (kind_in g h, starts g (omega arith))
@@ -274,22 +274,22 @@ module _ (form : Form) (ws : List ℕ) where
         (omega (arith, file_length form ws, joined_most (gates_of ws) g (gate_bytes form ws) h, gate_length form ws g))
         (gate_mark g h).0 (gate_mark g h).1)
 
-    out_done : (o : ℕ) → o < outputs_of ws → out_record (file_of form ws) (head_size + length (joined (gates_of ws) (gate_bytes form ws))) o ≡ Done
+    out_done : (o : ℕ) → o < outputs_of ws → out_record (file_of form ws) (head_size + length (joined (gates_of ws) (gate_bytes form ws))) o ≡ Ok tt
     unfolding out_record
     out_done o h = record_done (file_of form ws) _ byte_o _ (omega (arith, file_length form ws)) (out_mark o h).0 (out_mark o h).1
 
-    records_done : records_answer form (file_of form ws) ≡ Done
+    records_done : records_answer form (file_of form ws) ≡ Ok tt
     unfolding records_answer outs_answer
     records_done =
         let h : length (file_of form ws) ≤ head_size + length (joined (gates_of ws) (gate_bytes form ws)) + out_size * outputs_of ws = omega (arith, file_length form ws) in
         rw (gates_back, outputs_back, starts (gates_of ws) (omega arith))
         (both (each_done _ _ gate_done) (both (each_done _ _ out_done) (refuse_not _ _ _ (le-ltb _ _ h))))
 
-    head_done : record_answer (file_of form ws) 0 (mark_of form) head_size ≡ Done
+    head_done : record_answer (file_of form ws) 0 (mark_of form) head_size ≡ Ok tt
     unfolding head_bytes
     head_done = record_done (file_of form ws) 0 _ head_size (omega (arith, file_length form ws)) (head_in 0 (omega arith)) (head_in 1 (omega arith))
 
-    pub check_written : check_answer form (file_of form ws) ≡ Done
+    pub check_written : check_answer form (file_of form ws) ≡ Ok tt
     unfolding check_answer head_answer body_answer
     check_written =
         both (both head_done (ap (counts_answer 1) counts_back ∙ limits_done 1 _ sound.limits))

@@ -2,8 +2,7 @@
 -- words little-endian; "NH" I G O; for each gate "NG", a kind byte, a b c; for each output "NO", wire. Lists: 1 what is read
 -- or written, 2 the result.
 use Rattle.std.specs.Prelude.{ℕ, ◌+◌, ◌≡◌, List, ◌∷◌, ◌++◌, length, get_or}
-use Rattle.answer.specs.declared.Answer.{Answer}
-use Rattle.answer.specs.Answers.{◌▹◌}
+use Rattle.answer.specs.Answers.{Answer, ◌▹◌}
 use Rattle.answer.specs.Fronts.{left}
 use Rattle.answer.specs.Judges.{room_answer}
 use Rattle.netlist.specs.Words.{header_words, gate_place, gates_of, outputs_of}

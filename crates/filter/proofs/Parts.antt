@@ -1,41 +1,44 @@
 -- Laws of sums of monomials by parts: monomials of one degree, triangles, and parts end to end.
-use Prim.Native.Nat.{ℕ, zero, suc, ◌+◌, ◌-◌, ◌*◌, ◌%◌, ◌<◌, ◌≤◌}
+use Prim.Native.Nat.{ℕ, zero, suc, ◌+◌, ◌*◌, ◌%◌, ◌<◌, ◌≤◌}
 use mathlib.Core.Path.{◌≡◌, refl, ap, sym, ◌∙◌}
 use mathlib.Core.List.{List, [], ◌∷◌, ◌++◌}
 use native.Mathlib.Omega.{arith}
 use native.Mathlib.Nat.{suc-mul}
 use native.Mathlib.Numerals.{add-one}
 use lib.Bits.{bit_xor}
-use lib.ListN.{length, get_or, take, drop}
-use lib.Seq.{drop-cons, drop-drop}
+use lib.ListN.{length, get_or, take, drop, replicate, length-drop, length-take, length-append}
+use lib.Seq.{drop-cons, drop-drop, take_at, take_all, drop_at}
+use Rattle.std.proofs.lemmas.List.{take-take, drop-take}
 use Rattle.filter.specs.Filter.{tab, prod, sum_of}
-use Rattle.filter.specs.Papers.{triangle_size}
 use Rattle.filter.specs.Instances.{degrees_to, copies}
 use Rattle.filter.proofs.Sums.{regroup, sum_of-bit, xor_bit, Sum, sum-start, sum_step}
 use Rattle.filter.proofs.Tab.{tab-length, tab-at}
-use Rattle.filter.proofs.Published.{total, triangle_total, triangle_holds}
+use Rattle.filter.proofs.Published.{total, total-copies}
 
 -- The loop over the degrees as in Sum, where the variables are enough for all of them.
 module _ (ds xs : List ℕ) where
-  abbrev pub Part : ℕ → ℕ → ℕ → Type 0
-  Part acc at j = Sum ds xs acc at j × (at + total (drop j ds) ≤ length xs)
+  pub record Part (acc : ℕ) (rest : List ℕ) (j : ℕ) : Type 0 where
+    pub sums : Sum ds xs acc rest j
+    pub room : total (drop j ds) ≤ length rest
 
-  pub part-start : total ds ≤ length xs → Part 0 0 0
-  part-start h = (sum-start ds xs, omega arith)
+  pub part-start : total ds ≤ length xs → Part 0 xs 0
+  part-start h = record { sums = sum-start ds xs; room = omega arith }
 
   total_next : (j d : ℕ) → j < length ds → get_or ds j 0 ≡ d → total (drop j ds) ≡ d + total (drop (j + 1) ds)
   unfolding total
   total_next j d l e = rw (drop-cons ds j 0, e, add-one)
 
-  pub part_room : (acc at j d : ℕ) → Part acc at j → j < length ds → get_or ds j 0 ≡ d → at + d ≤ length xs
-  part_room acc at j d v l e = omega (arith, total_next j d l e)
+  pub part_room : (acc j d : ℕ) (rest : List ℕ) → Part acc rest j → j < length ds → get_or ds j 0 ≡ d → d ≤ length rest
+  part_room acc j d rest v l e = omega (arith, total_next j d l e, v.room)
 
-  pub part_step : (acc at j d t : ℕ) → Part acc at j → j < length ds → get_or ds j 0 ≡ d → t ≡ prod (take (at + d - at) (drop at xs)) % 2
-      → Part (bit_xor acc t) (at + d) (j + 1)
-  part_step acc at j d t v l e h =
-      let r : at + d ≤ length xs = part_room acc at j d v l e in
-      rw (xor_bit acc t v.0.2 (omega arith))
-      (sum_step ds xs acc at j d t v.0 l (omega arith) h, omega (arith, total_next j d l e))
+  pub part_step : (acc j d t i : ℕ) (rest part after : List ℕ) → Part acc rest j → j < length ds → get_or ds j 0 ≡ d
+      → part ≡ take d rest → after ≡ drop d rest → t ≡ prod part % 2 → i ≡ j + 1 → Part (bit_xor acc t) after i
+  part_step acc j d t i rest part after v l e p q h n =
+      let r : d ≤ length rest = part_room acc j d rest v l e in
+      record {
+        sums = sum_step ds xs acc j d t i rest part after v.sums l (omega arith) p q h n;
+        room = rw (n, q) (omega (arith, total_next j d l e, v.room, length-drop d rest));
+      }
 
 -- the degrees of a triangle are a table
 up_to-tab : (k : ℕ) → degrees_to k ≡ tab suc k
@@ -65,39 +68,70 @@ join ds es xs {a} {b} {at} {ys} t e p q =
     xor_bit a b (omega (arith, sum_of-bit ds xs)) (omega (arith, sum_of-bit es ys))
     ∙ rw (p, f) (sym (sum_of-append ds es xs))
 
--- No triangles, or such as have no monomials.
-none : (left k : ℕ) (xs : List ℕ) → left * triangle_size k ≡ 0 → sum_of (copies left (degrees_to k)) xs ≡ 0
+-- A sum of monomials takes no variable behind its own.
+sum_of-take : (ds xs : List ℕ) → sum_of ds (take (total ds) xs) ≡ sum_of ds xs
+unfolding sum_of total
+sum_of-take [] xs = refl
+sum_of-take (d ∷ ds) xs =
+    rw (take-take d (d + total ds) xs (omega arith), drop-take d (total ds) xs, sum_of-take ds (drop d xs))
+
+-- The loop over n parts of the same degrees: acc is the sum of those before rest, and left are still to come.
+module _ (ds : List ℕ) (n : ℕ) (xs : List ℕ) where
+  pub record Parts (acc size : ℕ) (rest : List ℕ) : Type 0 where
+    pub left : ℕ
+    pub bit : acc < 2
+    pub each : size ≡ total ds
+    pub room : length rest ≡ left * total ds
+    pub adds : (acc + sum_of (copies left ds) rest) % 2 ≡ sum_of (copies n ds) xs
+
+  pub parts_start : (size end : ℕ) (rest : List ℕ) → size ≡ total ds → end ≡ n * total ds → end ≤ length xs → rest ≡ take end xs → Parts 0 size rest
+  parts_start size end rest e f h r =
+      let s : sum_of (copies n ds) rest ≡ sum_of (copies n ds) xs = rw (r, f, ← total-copies n ds) (sum_of-take (copies n ds) xs) in
+      record {
+        left = n;
+        bit = omega arith;
+        each = e;
+        room = rw r (omega (arith, length-take end xs));
+        adds = omega (arith, s, sum_of-bit (copies n ds) xs);
+      }
+
+  pub parts_step : (acc size t next : ℕ) (rest part after : List ℕ) → Parts acc size rest → 0 < size → next ≡ size → rest ≡ part ++ after
+      → length part ≡ size → t ≡ sum_of ds part → Parts (bit_xor acc t) next after
+  parts_step acc size t next rest part after v z w p q h = step v.left v.room v.adds
+    where
+      step : (left : ℕ) → length rest ≡ left * total ds → (acc + sum_of (copies left ds) rest) % 2 ≡ sum_of (copies n ds) xs → Parts (bit_xor acc t) next after
+      step zero r e = absurd (omega (arith, r, v.each, ap length p, length-append part after))
+      step (suc left) r e =
+          let m : length part ≡ total ds = q ∙ v.each in
+          let f : sum_of ds rest ≡ t = sym (sum_of-take ds rest) ∙ ap (sum_of ds) (rw p (take_at part after (total ds) m)) ∙ sym h in
+          let a : drop (total ds) rest ≡ after = rw p (drop_at part after (total ds) m) in
+          let s : sum_of (copies (suc left) ds) rest ≡ (t + sum_of (copies left ds) after) % 2 = rw (← f, ← a) (sum_of-append ds (copies left ds) rest) in
+          let b : t < 2 = rw (← f) (sum_of-bit ds rest) in
+          record {
+            left = left;
+            bit = rw (xor_bit acc t v.bit b) (omega arith);
+            each = w ∙ v.each;
+            room = omega (arith, r, m, suc-mul left (total ds), ap length p, length-append part after);
+            adds = rw (xor_bit acc t v.bit b) (sym (regroup acc t (sum_of (copies left ds) after)) ∙ rw (← s) e);
+          }
+
+  pub parts_end : (acc size : ℕ) (rest : List ℕ) → Parts acc size rest → length rest < size → acc ≡ sum_of (copies n ds) xs
+  unfolding sum_of
+  parts_end acc size rest v l = last v.left v.room v.adds
+    where
+      last : (left : ℕ) → length rest ≡ left * total ds → (acc + sum_of (copies left ds) rest) % 2 ≡ sum_of (copies n ds) xs → acc ≡ sum_of (copies n ds) xs
+      last zero r e = omega (arith, v.bit, e)
+      last (suc left) r e = absurd (omega (arith, r, v.each, suc-mul left (total ds)))
+
+-- parts of one monomial each
+pub total-one : (d : ℕ) → total (d ∷ []) ≡ d
+unfolding total
+total-one d = omega arith
+
+pub copies_one : (n d : ℕ) → copies n (d ∷ []) ≡ replicate n d
+copies_one zero d = refl
+copies_one (suc n) d = ap (λ (l : List ℕ). d ∷ l) (copies_one n d)
+
+pub sum_of-one : (d : ℕ) (xs : List ℕ) → length xs ≡ d → prod xs % 2 ≡ sum_of (d ∷ []) xs
 unfolding sum_of
-none zero k xs e = refl
-none (suc left) zero xs e = none left zero xs (omega arith)
-none (suc left) (suc k) xs e = absurd (omega (arith, suc-mul left (triangle_size (suc k)), triangle_holds (suc k)))
-
--- The loop over n triangles of degree k: acc is the sum of those before variable at, and left are still to come.
-module _ (n k : ℕ) (xs : List ℕ) where
-  abbrev pub Triangles : ℕ → ℕ → Type 0
-  Triangles acc at =
-      (left : ℕ) × (acc < 2) × (at + left * triangle_size k ≡ n * triangle_size k)
-      × ((acc + sum_of (copies left (degrees_to k)) (drop at xs)) % 2 ≡ sum_of (copies n (degrees_to k)) xs)
-
-  pub triangles_start : Triangles 0 0
-  triangles_start = (n, omega arith, omega arith, omega (arith, sum_of-bit (copies n (degrees_to k)) xs))
-
-  pub triangles_room : (acc at : ℕ) → Triangles acc at → at < n * triangle_size k → at + triangle_size k ≤ n * triangle_size k
-  triangles_room acc at (zero, b, p, e) l = absurd (omega arith)
-  triangles_room acc at (suc left, b, p, e) l = omega (arith, suc-mul left (triangle_size k))
-
-  pub triangles_step : (acc at t : ℕ) {ys : List ℕ} → Triangles acc at → at < n * triangle_size k → ys ≡ drop at xs → t ≡ sum_of (degrees_to k) ys
-      → Triangles (bit_xor acc t) (at + triangle_size k)
-  triangles_step acc at t (zero, b, p, e) l y h = absurd (omega arith)
-  triangles_step acc at t (suc left, b, p, e) l y h =
-      let rest : ℕ = sum_of (copies left (degrees_to k)) (drop (at + triangle_size k) xs) in
-      let f : t ≡ sum_of (degrees_to k) (drop at xs) = h ∙ ap (sum_of (degrees_to k)) y in
-      let s : sum_of (copies (suc left) (degrees_to k)) (drop at xs) ≡ (t + rest) % 2 =
-      sum_of-append (degrees_to k) (copies left (degrees_to k)) (drop at xs)
-      ∙ ap (λ (y : List ℕ). (sum_of (degrees_to k) (drop at xs) + sum_of (copies left (degrees_to k)) y) % 2) (drop-drop (total (degrees_to k)) at xs ∙ ap (λ (m : ℕ). drop (at + m) xs) (triangle_total k))
-      ∙ ap (λ (y : ℕ). (y + rest) % 2) (sym f) in
-      rw (xor_bit acc t b (omega (arith, sum_of-bit (degrees_to k) (drop at xs))))
-      (left, omega arith, omega (arith, suc-mul left (triangle_size k)), sym (regroup acc t rest) ∙ ap (λ (y : ℕ). (acc + y) % 2) (sym s) ∙ e)
-
-  pub triangles_end : (acc at : ℕ) → Triangles acc at → n * triangle_size k ≤ at → acc ≡ sum_of (copies n (degrees_to k)) xs
-  triangles_end acc at (left, b, p, e) l = omega (arith, none left k (drop at xs) (omega arith))
+sum_of-one d xs h = let e : take d xs ≡ xs = take_all d xs (omega arith) in rw e (omega arith)

@@ -130,7 +130,7 @@ copies_snoc : (n : ℕ) (s : List ℕ) → copies (suc n) s ≡ copies n s ++ s
 copies_snoc zero s = append-nil s
 copies_snoc (suc n) s = ap (λ (l : List ℕ). s ++ l) (copies_snoc n s) ∙ sym (append_assoc s (copies n s) s)
 
-total-copies : (n : ℕ) (s : List ℕ) → total (copies n s) ≡ n * total s
+pub total-copies : (n : ℕ) (s : List ℕ) → total (copies n s) ≡ n * total s
 unfolding total
 total-copies zero s = omega arith
 total-copies (suc n) s = omega (arith, total-append s (copies n s), total-copies n s, suc-mul n (total s))

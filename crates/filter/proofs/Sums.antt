@@ -1,14 +1,15 @@
 -- Laws of products, sums of monomials and counts, as the loops take them.
-use Prim.Native.Nat.{ℕ, zero, suc, ◌+◌, ◌-◌, ◌*◌, ◌/◌, ◌%◌, ◌<◌, ◌≤◌, min}
+use Prim.Native.Nat.{ℕ, zero, suc, ◌+◌, ◌*◌, ◌/◌, ◌%◌, ◌<◌, ◌≤◌, min}
 use mathlib.Core.Path.{◌≡◌, refl, ap, sym, ◌∙◌}
 use mathlib.Core.List.{List, [], ◌∷◌}
 use native.Mathlib.Omega.{arith}
-use native.Mathlib.Nat.{add-sub_cancel_left, add-mul, mul_assoc, one-mul, zero-mul, add-mul-mod_self_left, mod-add-mod, add-mod-mod}
+use native.Mathlib.Nat.{add-mul, mul_assoc, one-mul, zero-mul, add-mul-mod_self_left}
 use native.Mathlib.Numerals.{add-one}
 use native.Mathlib.Decide.{dec_le}
 use lib.Bits.{bit_and, bit_xor, and_zero_l, and_comm, and_mask, xor_add_and, xor_lt}
-use lib.ListN.{length, get_or, take, drop, length-drop, drop_of_length-le}
-use lib.Seq.{drop-cons, drop-drop, take_all}
+use lib.ListN.{length, get_or, take, drop, drop_of_length-le}
+use lib.Seq.{drop-cons}
+use Rattle.std.proofs.lemmas.List.{take_min}
 use borrow.Author.Tests.{le-leb, lt-leb}
 use Rattle.filter.specs.Filter.{prod, sum_of, ones, threshold}
 use Rattle.filter.specs.Instances.{degrees_of}
@@ -67,68 +68,55 @@ unfolding sum_of
 sum_of-bit [] xs = omega arith
 sum_of-bit (d ∷ ds) xs = omega arith
 
--- a part of d places, or of as many as are left
-take_left : (xs : List ℕ) (at d size : ℕ) → size ≡ min d (length xs - at) → take size (drop at xs) ≡ take d (drop at xs)
-take_left xs at d size e =
-    elim (dec_le d (length xs - at)) [
-      | yes p ↦ (let q : size ≡ d = omega arith in rw q)
-      | no p ↦ (let q : size ≡ length xs - at = omega arith in
-          take_all size (drop at xs) (omega (arith, length-drop at xs)) ∙ sym (take_all d (drop at xs) (omega (arith, length-drop at xs))))
+-- where too few variables are left, a monomial takes them all
+drop_min : (d : ℕ) (xs : List ℕ) → drop (min d (length xs)) xs ≡ drop d xs
+drop_min d xs =
+    elim (dec_le d (length xs)) [
+      | yes p ↦ (let e : min d (length xs) ≡ d = omega arith in rw e)
+      | no p ↦ (let e : min d (length xs) ≡ length xs = omega arith in
+          rw e (drop_of_length-le xs {i = length xs} (omega arith) ∙ sym (drop_of_length-le xs {i = d} (omega arith))))
     ]
 
-drop-left : (xs : List ℕ) (at d size : ℕ) → size ≡ min d (length xs - at) → drop d (drop at xs) ≡ drop (at + size) xs
-drop-left xs at d size e =
-    drop-drop d at xs
-    ∙ elim (dec_le d (length xs - at)) [
-      | yes p ↦ (let q : size ≡ d = omega arith in rw q)
-      | no p ↦ drop_of_length-le xs {i = at + d} (omega arith) ∙ sym (drop_of_length-le xs {i = at + size} (omega arith))
-    ]
-
-parity : (acc P S T : ℕ) {t s : ℕ} → t ≡ P % 2 → s ≡ (P + S) % 2 → (acc + s) % 2 ≡ T → ((acc + t) % 2 + S) % 2 ≡ T
-parity acc P S T {t} {s} p q r =
-    mod-add-mod (acc + t) 2 S
-    ∙ ap (λ (x : ℕ). (acc + x + S) % 2) p
-    ∙ together acc P S
-    ∙ sym (add-mod-mod acc (P + S) 2)
-    ∙ ap (λ (x : ℕ). (acc + x) % 2) (sym q)
-    ∙ r
+parity : (acc P S T t : ℕ) → t ≡ P % 2 → (acc + (P + S) % 2) % 2 ≡ T → ((acc + t) % 2 + S) % 2 ≡ T
+parity acc P S T t p r = rw p (sym (moved acc P S) ∙ r)
   where
-    together : (acc P S : ℕ) → (acc + P % 2 + S) % 2 ≡ (acc + (P + S)) % 2
-    together acc P S = omega arith
+    moved : (acc P S : ℕ) → (acc + (P + S) % 2) % 2 ≡ ((acc + P % 2) % 2 + S) % 2
+    moved acc P S = omega arith
 
--- The loop over the degrees stands at degree j and variable at; acc is the sum so far.
+-- The loop over the degrees: acc is the sum of the first j monomials, and rest the variables that they leave.
 module _ (ds xs : List ℕ) where
-  abbrev pub Sum : ℕ → ℕ → ℕ → Type 0
-  Sum acc at j = (at ≤ length xs) × (j ≤ length ds) × (acc < 2) × ((acc + sum_of (drop j ds) (drop at xs)) % 2 ≡ sum_of ds xs)
+  pub record Sum (acc : ℕ) (rest : List ℕ) (j : ℕ) : Type 0 where
+    pub bit : acc < 2
+    pub adds : (acc + sum_of (drop j ds) rest) % 2 ≡ sum_of ds xs
 
-  pub sum-start : Sum 0 0 0
-  sum-start = (omega arith, omega arith, omega arith, omega (arith, sum_of-bit ds xs))
+  pub sum-start : Sum 0 xs 0
+  sum-start = record { bit = omega arith; adds = omega (arith, sum_of-bit ds xs) }
 
-  pub sum_step : (acc at j size t : ℕ) → Sum acc at j → j < length ds → size ≡ min (get_or ds j 0) (length xs - at)
-      → t ≡ prod (take (at + size - at) (drop at xs)) % 2 → Sum ((acc + t) % 2) (at + size) (j + 1)
+  pub sum_step : (acc j size t i : ℕ) (rest part after : List ℕ) → Sum acc rest j → j < length ds → size ≡ min (get_or ds j 0) (length rest)
+      → part ≡ take size rest → after ≡ drop size rest → t ≡ prod part % 2 → i ≡ j + 1 → Sum (bit_xor acc t) after i
   unfolding sum_of
-  sum_step acc at j size t v l e h =
+  sum_step acc j size t i rest part after v l e p q h n =
       let d = get_or ds j 0 in
-      let s : sum_of (drop j ds) (drop at xs) ≡ (prod (take d (drop at xs)) + sum_of (drop (suc j) ds) (drop d (drop at xs))) % 2 = rw (drop-cons ds j 0) in
-      let p : t ≡ prod (take d (drop at xs)) % 2 = h ∙ ap (λ (y : List ℕ). prod y % 2) (rw (add-sub_cancel_left at size) (take_left xs at d size e)) in
-      let q : sum_of (drop (suc j) ds) (drop d (drop at xs)) ≡ sum_of (drop (j + 1) ds) (drop (at + size) xs) = rw (add-one, drop-left xs at d size e) in
-      (omega arith, omega arith, omega arith, parity acc (prod (take d (drop at xs))) _ _ p (s ∙ rw q) v.3)
+      let s : sum_of (drop j ds) rest ≡ (prod (take d rest) + sum_of (drop i ds) (drop d rest)) % 2 = rw (n, drop-cons ds j 0, add-one) in
+      let m : t ≡ prod (take d rest) % 2 = h ∙ ap (λ (y : List ℕ). prod y % 2) (p ∙ rw e (take_min d rest)) in
+      let r : after ≡ drop d rest = q ∙ rw e (drop_min d rest) in
+      rw (xor_bit acc t v.bit (omega arith), r)
+      record { bit = omega arith; adds = parity acc (prod (take d rest)) _ _ t m (rw (← s) v.adds) }
 
-  pub sum_end : (acc at j : ℕ) → Sum acc at j → length ds ≤ j → acc ≡ sum_of ds xs
+  pub sum_end : (acc j : ℕ) (rest : List ℕ) → Sum acc rest j → length ds ≤ j → acc ≡ sum_of ds xs
   unfolding sum_of
-  sum_end acc at j v l =
-      let z : sum_of (drop j ds) (drop at xs) ≡ 0 = rw (drop_of_length-le ds l) in
-      omega arith
+  sum_end acc j rest v l =
+      let z : sum_of (drop j ds) rest ≡ 0 = rw (drop_of_length-le ds l) in
+      omega (arith, v.bit, v.adds)
 
 -- the part of FiLIP-144's threshold
-pub last_part : (xs : List ℕ) (start size : ℕ) → start ≡ min 81 (length xs) → size ≡ min 63 (length xs - start)
-    → take (start + size - start) (drop start xs) ≡ take 63 (drop 81 xs)
-last_part xs start size e f =
-    let d : drop start xs ≡ drop 81 xs = elim (dec_le 81 (length xs)) [
-      | yes p ↦ (let q : start ≡ 81 = omega arith in rw q)
-      | no p ↦ drop_of_length-le xs {i = start} (omega arith) ∙ sym (drop_of_length-le xs {i = 81} (omega arith))
-    ] in
-    rw (add-sub_cancel_left start size) (take_left xs start 63 size f ∙ ap (take 63) d)
+pub last_part : (xs rest part : List ℕ) → rest ≡ drop (min (length xs) 81) xs → part ≡ take (min (length rest) 63) rest → part ≡ take 63 (drop 81 xs)
+last_part xs rest part e f =
+    let d : rest ≡ drop 81 xs = e ∙ rw (min_comm (length xs) 81) (drop_min 81 xs) in
+    f ∙ rw (min_comm (length rest) 63) (take_min 63 rest) ∙ ap (take 63) d
+  where
+    min_comm : (a b : ℕ) → min a b ≡ min b a
+    min_comm a b = omega arith
 
 -- Counts.
 pub ones-start : (x : List ℕ) → 0 + ones (drop 0 x) ≡ ones x
@@ -158,12 +146,12 @@ threshold_is x h =
       | no p ↦ (let q : ones x < 32 = omega arith in rw (lt-leb 32 (ones x) q) (omega arith))
     ]
 
-pub degrees_off : (i : ℕ) (xs : List ℕ) → (i ≤ 5 → i ≡ 0) → 0 ≡ sum_of (degrees_of i) xs
-unfolding degrees_of sum_of
-degrees_off zero xs h = refl
-degrees_off (suc zero) xs h = absurd (omega (arith, h (omega arith)))
-degrees_off (suc (suc zero)) xs h = absurd (omega (arith, h (omega arith)))
-degrees_off (suc (suc (suc zero))) xs h = absurd (omega (arith, h (omega arith)))
-degrees_off (suc (suc (suc (suc zero)))) xs h = absurd (omega (arith, h (omega arith)))
-degrees_off (suc (suc (suc (suc (suc zero))))) xs h = absurd (omega (arith, h (omega arith)))
-degrees_off (suc (suc (suc (suc (suc (suc i)))))) xs h = refl
+pub degrees_off : (i : ℕ) → (i ≤ 5 → i ≡ 0) → [] ≡ degrees_of i
+unfolding degrees_of
+degrees_off zero h = refl
+degrees_off (suc zero) h = absurd (omega (arith, h (omega arith)))
+degrees_off (suc (suc zero)) h = absurd (omega (arith, h (omega arith)))
+degrees_off (suc (suc (suc zero))) h = absurd (omega (arith, h (omega arith)))
+degrees_off (suc (suc (suc (suc zero)))) h = absurd (omega (arith, h (omega arith)))
+degrees_off (suc (suc (suc (suc (suc zero))))) h = absurd (omega (arith, h (omega arith)))
+degrees_off (suc (suc (suc (suc (suc (suc i)))))) h = refl

@@ -4,7 +4,7 @@
 
 mod tables;
 
-ghost use Rattle.std.specs.Prelude.{◌≡◌, ◌+◌, ◌*◌, ◌%◌, ◌≤◌, min, length, take, drop, replicate};
+ghost use Rattle.std.specs.Prelude.{◌≡◌, ◌+◌, ◌*◌, ◌%◌, ◌<◌, ◌≤◌, length, take, drop, replicate};
 ghost use Rattle.instance.specs.Table.{row_bits};
 ghost use Rattle.filter.specs.Filter.{prod, sum_of, ones};
 ghost use Rattle.filter.specs.Papers.{triangle_size};
@@ -16,49 +16,38 @@ pub use crate::tables::{FILIP_144, FILIP_1216, FILIP_1280, FLIP_530, FLIP_1394};
 fn product(x: &[u8]) -> u8
     ensures { result ≡ prod x.now % 2 }
 {
-    let mut p: u8 = 1;
-    let mut i: usize = 0;
-    while i < x.len() {
-        p = p & x[i];
-        i += 1;
+    let mut p = 1;
+    for &b in x {
+        p &= b;
     }
     p
-}
-
-fn smaller(a: usize, b: usize) -> usize
-    ensures { result ≡ min a b }
-{
-    if a <= b { a } else { b }
 }
 
 // The sum of monomials of the given degrees, over variables taken in order.
 pub fn sum_monomials(degrees: &[u8], x: &[u8]) -> u8
     ensures { result ≡ sum_of degrees.now x.now }
 {
-    let mut sum: u8 = 0;
-    let mut at: usize = 0;
-    let mut j: usize = 0;
-    while j < degrees.len() {
-        let size = smaller(degrees[j] as usize, x.len() - at);
-        let end = at + size;
-        sum = (sum + product(&x[at..end])) % 2;
-        at = end;
-        j += 1;
+    let mut sum = 0;
+    let mut rest = x;
+    for &degree in degrees {
+        let (monomial, after) = rest.split_at(usize::from(degree).min(rest.len()));
+        sum ^= product(monomial);
+        rest = after;
     }
     sum
 }
 
-// The sum of an instance's monomials by its table of degrees, over any number of variables.
-fn sum_by_table(instance: u32, x: &[u8]) -> u8
-    ensures { result ≡ sum_of (degrees_of instance) x.now }
+// The degrees of an instance's monomials; none for an instance that has no filter.
+pub fn degrees(instance: u32) -> &'static [u8]
+    ensures { result.now ≡ degrees_of instance }
 {
     match instance {
-        1 => sum_monomials(&FLIP_530, x),
-        2 => sum_monomials(&FLIP_1394, x),
-        3 => sum_monomials(&FILIP_1216, x),
-        4 => sum_monomials(&FILIP_1280, x),
-        5 => sum_monomials(&FILIP_144, x),
-        _ => 0,
+        1 => &FLIP_530,
+        2 => &FLIP_1394,
+        3 => &FILIP_1216,
+        4 => &FILIP_1280,
+        5 => &FILIP_144,
+        _ => &[],
     }
 }
 
@@ -67,17 +56,12 @@ fn sum_by_table(instance: u32, x: &[u8]) -> u8
 
 // The sum of some monomials of one degree.
 fn sum_equal(degree: usize, many: usize, x: &[u8]) -> u8
-    requires { degree * many ≤ length x.now }
+    requires { (0 < degree) × (degree * many ≤ length x.now) }
     ensures { result ≡ sum_of (replicate many degree) x.now }
 {
-    let mut sum: u8 = 0;
-    let mut at: usize = 0;
-    let mut j: usize = 0;
-    while j < many {
-        let end = at + degree;
-        sum = sum ^ product(&x[at..end]);
-        at += degree;
-        j += 1;
+    let mut sum = 0;
+    for monomial in x[..degree * many].chunks_exact(degree) {
+        sum ^= product(monomial);
     }
     sum
 }
@@ -87,14 +71,12 @@ fn triangle(k: usize, x: &[u8]) -> u8
     requires { triangle_size k ≤ length x.now }
     ensures { result ≡ sum_of (degrees_to k) x.now }
 {
-    let mut sum: u8 = 0;
-    let mut at: usize = 0;
-    let mut j: usize = 0;
-    while j < k {
-        j += 1;
-        let end = at + j;
-        sum = sum ^ product(&x[at..end]);
-        at += j;
+    let mut sum = 0;
+    let mut rest = x;
+    for degree in 1..k + 1 {
+        let (monomial, after) = rest.split_at(degree);
+        sum ^= product(monomial);
+        rest = after;
     }
     sum
 }
@@ -102,23 +84,20 @@ fn triangle(k: usize, x: &[u8]) -> u8
 // 8 triangles of degree k. The loop goes by variables: one that counted to 8 the compiler would unroll before
 // it knows k, and then not lay out for each k.
 fn triangles(k: usize, x: &[u8]) -> u8
-    requires { 8 * triangle_size k ≤ length x.now }
+    requires { (0 < k) × (8 * triangle_size k ≤ length x.now) }
     ensures { result ≡ sum_of (copies 8 (degrees_to k)) x.now }
 {
     let size = k * (k + 1) / 2;
-    let end = 8 * size;
-    let mut sum: u8 = 0;
-    let mut at: usize = 0;
-    while at < end {
-        sum = sum ^ triangle(k, &x[at..]);
-        at += size;
+    let mut sum = 0;
+    for triangular in x[..8 * size].chunks_exact(size) {
+        sum ^= triangle(k, triangular);
     }
     sum
 }
 
 // FLIP: linear variables, pairs, and 8 triangles of degree k.
 fn flip(linear: usize, pairs: usize, k: usize, x: &[u8]) -> u8
-    requires { linear + 2 * pairs + 8 * triangle_size k ≤ length x.now }
+    requires { (0 < k) × (linear + 2 * pairs + 8 * triangle_size k ≤ length x.now) }
     ensures { result ≡ sum_of (flip_degrees linear pairs 8 k) x.now }
 {
     let ones = sum_equal(1, linear, x);
@@ -169,20 +148,19 @@ fn monomials(instance: u32, x: &[u8]) -> u8
     ensures { result ≡ sum_of (degrees_of instance) x.now }
 {
     if x.len() < instance::row_bits(instance) {
-        return sum_by_table(instance, x);
+        sum_monomials(degrees(instance), x)
+    } else {
+        sum_by_parts(instance, x)
     }
-    sum_by_parts(instance, x)
 }
 
-// How many of the bits are 1.
+// How many of the bits are 1. A chain of iterators was a twentieth slower.
 pub fn count_ones(x: &[u8]) -> usize
     ensures { result ≡ ones x.now }
 {
-    let mut n: usize = 0;
-    let mut i: usize = 0;
-    while i < x.len() {
-        n += (x[i] % 2) as usize;
-        i += 1;
+    let mut n = 0;
+    for &b in x {
+        n += usize::from(b % 2);
     }
     n
 }
@@ -191,10 +169,9 @@ pub fn count_ones(x: &[u8]) -> usize
 fn last_part(x: &[u8]) -> &[u8]
     ensures { result.now ≡ take 63 (drop 81 x.now) }
 {
-    let start = smaller(81, x.len());
-    let size = smaller(63, x.len() - start);
-    let end = start + size;
-    &x[start..end]
+    let (_, rest) = x.split_at(x.len().min(81));
+    let (part, _) = rest.split_at(rest.len().min(63));
+    part
 }
 
 // FiLIP-144's threshold, 32 of 63: (ones + 32) / 64 is 1 exactly from 32 ones on, and 0 below. 0 for the

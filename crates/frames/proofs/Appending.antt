@@ -11,9 +11,10 @@ use lib.ListN.{length, get_or, take, length-drop}
 use lib.Seq.{get_or-drop}
 use lib.Dec.{ltb, eqb}
 use borrow.Author.Tests.{lt-ltb, ltb-true}
-use Rattle.answer.specs.declared.Answer.{Answer}
-use Rattle.answer.specs.declared.Answer.TheVariants.{Done, Refused}
-use Rattle.answer.specs.Answers.{◌▹◌, refuse, each}
+use Rattle.std.specs.Prelude.{Err, Ok}
+use Rattle.answer.specs.declared.Reason.{Reason}
+use Rattle.answer.specs.declared.Reason.TheVariants.{Length, Bit, Room, Frame, Order}
+use Rattle.answer.specs.Answers.{Answer, reason_number, ◌▹◌, refuse, each}
 use Rattle.answer.specs.Bits.{bits_answer}
 use Rattle.answer.specs.Choose.{choose}
 use Rattle.answer.specs.Fronts.{over, left}
@@ -36,17 +37,17 @@ use Rattle.frames.proofs.Places.{frame_length, more_frames, more_file, new_iv, n
 
 on_list-row : (l : ℕ) (a b : Answer) → on_list l (a ▹ b) ≡ on_list l a ▹ on_list l b
 unfolding on_list ◌▹◌
-on_list-row l Done b = refl
-on_list-row l (Refused n m p) b = refl
+on_list-row l (Ok _) b = refl
+on_list-row l (Err r) b = refl
 
-on_list-refuse : (l n m p : ℕ) (b : Bool) → on_list l (refuse n m p b) ≡ refuse n l p b
+on_list-refuse : (l : ℕ) (n : Reason) (m p : ℕ) (b : Bool) → on_list l (refuse n m p b) ≡ refuse n l p b
 unfolding on_list refuse
 on_list-refuse l n m p true = refl
 on_list-refuse l n m p false = refl
 
 frame_on_list : (l m : ℕ) (s : List ℕ) (k : ℕ) → on_list l (frame_answer m s k) ≡ frame_answer l s k
 unfolding frame_answer
-frame_on_list l m s k = on_list-row l _ _ ∙ ap₂ ◌▹◌ (on_list-refuse l 15 m (start k) _) (on_list-refuse l 16 m (start k) _)
+frame_on_list l m s k = on_list-row l _ _ ∙ ap₂ ◌▹◌ (on_list-refuse l Frame m (start k) _) (on_list-refuse l Order m (start k) _)
 
 each-on_list : (l : ℕ) (f g : ℕ → Answer) → ((k : ℕ) → on_list l (f k) ≡ g k) → (n : ℕ) → on_list l (each n f) ≡ each n g
 unfolding each on_list
@@ -58,14 +59,14 @@ pub file_on_list : (l m : ℕ) (s : List ℕ) → on_list l (file_answer m s) �
 unfolding file_answer
 file_on_list l m s = each-on_list l (frame_answer m s) (frame_answer l s) (frame_on_list l m s) (frames_in s)
 
-pub relisted : (m l : ℕ) (s : List ℕ) → file_answer m s ≡ Done → file_answer l s ≡ Done
+pub relisted : (m l : ℕ) (s : List ℕ) → file_answer m s ≡ Ok tt → file_answer l s ≡ Ok tt
 unfolding on_list
 relisted m l s e = sym (file_on_list l m s) ∙ ap (on_list l) e
 
 -- ---- a frame that was appended
 
 -- what a call that is done leaves at the front of its room
-pub frame_left : (key rec iv s out : List ℕ) {out' : List ℕ} → Appended key rec iv s out Done out' → take frame_size out' ≡ frame_of (key_in 6 key) rec iv
+pub frame_left : (key rec iv s out : List ℕ) {out' : List ℕ} → Appended key rec iv s out (Ok tt) out' → take frame_size out' ≡ frame_of (key_in 6 key) rec iv
 unfolding left
 frame_left key rec iv s out a =
     let frame = frame_of (key_in 6 key) rec iv in
@@ -73,9 +74,9 @@ frame_left key rec iv s out a =
 
 -- What `append` accepts, put at the file's end, is a file that `read` accepts; it gives the records from before and then the
 -- new one.
-pub append_then_read : (key rec iv s out recs : List ℕ) {r : Answer} {out' recs' : List ℕ} → Appended key rec iv s out Done out'
+pub append_then_read : (key rec iv s out recs : List ℕ) {r : Answer} {out' recs' : List ℕ} → Appended key rec iv s out (Ok tt) out'
     → FramesRead key (s ++ take frame_size out') recs r recs' → 64 * (frames_in s + 1) ≤ length recs
-    → (r ≡ Done) × (recs' ≡ over (records_in (key_in 6 key) s (frames_in s) ++ rec) recs)
+    → (r ≡ Ok tt) × (recs' ≡ over (records_in (key_in 6 key) s (frames_in s) ++ rec) recs)
 append_then_read key rec iv s out recs {r} {out'} {recs'} a x h =
     let l = append-lent key rec iv s (length out) (sym a.answered) in
     let w = file_whole 4 s l.file in
@@ -83,7 +84,7 @@ append_then_read key rec iv s out recs {r} {out'} {recs'} a x h =
     let more = s ++ frame_of bits rec iv in
     let y : FramesRead key more recs r recs' = rw (frame_left key rec iv s out a) at x in
     let file = more_file s bits rec iv w 4 2 l.file l.rise in
-    let d : r ≡ Done = y.answered ∙ lent_read key more (length recs) record {
+    let d : r ≡ Ok tt = y.answered ∙ lent_read key more (length recs) record {
       keyed = l.keyed;
       file = file;
       whole = file_whole 2 more file;
@@ -99,7 +100,7 @@ module _ (key : List ℕ) (rec iv : ℕ → List ℕ) where
 
   -- the file of the first k of them: k frames in order, the last with the last IV
   record Filed (k : ℕ) : Type 0 where
-    file : file_answer 4 (frames_of bits rec iv k) ≡ Done
+    file : file_answer 4 (frames_of bits rec iv k) ≡ Ok tt
     frames : frames_in (frames_of bits rec iv k) ≡ k
     records : records_in bits (frames_of bits rec iv k) k ≡ end_to_end rec k
     last : (j : ℕ) → k ≡ suc j → iv_number (frames_of bits rec iv k) j ≡ iv_value (iv j)
@@ -116,10 +117,10 @@ module _ (key : List ℕ) (rec iv : ℕ → List ℕ) where
     above_last (suc k) h f =
         lt-ltb (iv_number (frames_of bits rec iv (suc k)) k) (iv_value (iv (suc k))) (rw (f.last k refl) (g.rise k h))
 
-    next_done : (k : ℕ) → k < n → Filed k → new_answer 4 (frames_of bits rec iv k) (iv k) ≡ Done
+    next_done : (k : ℕ) → k < n → Filed k → new_answer 4 (frames_of bits rec iv k) (iv k) ≡ Ok tt
     unfolding new_answer
     next_done k h f =
-        refuse_not 16 4 _ (ap not (ap (λ (i : ℕ). above (frames_of bits rec iv k) i (iv k)) f.frames ∙ above_last k h f))
+        refuse_not Order 4 _ (ap not (ap (λ (i : ℕ). above (frames_of bits rec iv k) i (iv k)) f.frames ∙ above_last k h f))
 
     filed : (k : ℕ) → k ≤ n → Filed k
     unfolding frames_of end_to_end
@@ -141,7 +142,7 @@ module _ (key : List ℕ) (rec iv : ℕ → List ℕ) where
         }
 
     -- Each of them is accepted behind those before it.
-    pub all_appended : Keyed 6 key → (k : ℕ) → k < n → (room : ℕ) → frame_size ≤ room → append_answer key (rec k) (iv k) (frames_of bits rec iv k) room ≡ Done
+    pub all_appended : Keyed 6 key → (k : ℕ) → k < n → (room : ℕ) → frame_size ≤ room → append_answer key (rec k) (iv k) (frames_of bits rec iv k) room ≡ Ok tt
     all_appended b k h room l =
         let f = filed k (omega arith) in
         lent-append key (rec k) (iv k) (frames_of bits rec iv k) room
@@ -160,7 +161,7 @@ module _ (key : List ℕ) (rec iv : ℕ → List ℕ) where
         (called : (k : ℕ) → k < n → Appended key (rec k) (iv k) (file k) (room k) (r k) (room' k))
         (space : (k : ℕ) → k < n → frame_size ≤ length (room k))
         (put : (k : ℕ) → k < n → file (suc k) ≡ file k ++ take frame_size (room' k)) where
-      accepted : (k : ℕ) → k < n → file k ≡ frames_of bits rec iv k → r k ≡ Done
+      accepted : (k : ℕ) → k < n → file k ≡ frames_of bits rec iv k → r k ≡ Ok tt
       accepted k h e =
           (called k h).answered
           ∙ ap (λ (s : List ℕ). append_answer key (rec k) (iv k) s (length (room k))) e
@@ -171,20 +172,20 @@ module _ (key : List ℕ) (rec iv : ℕ → List ℕ) where
       grown zero h = empty
       grown (suc k) h =
           let e = grown k (omega arith) in
-          let c : Appended key (rec k) (iv k) (file k) (room k) Done (room' k) = rw (accepted k (omega arith) e) at (called k (omega arith)) in
+          let c : Appended key (rec k) (iv k) (file k) (room k) (Ok tt) (room' k) = rw (accepted k (omega arith) e) at (called k (omega arith)) in
           put k (omega arith) ∙ ap₂ ◌++◌ e (frame_left key (rec k) (iv k) (file k) (room k) c)
 
-      pub appends_accepted : (k : ℕ) → k < n → r k ≡ Done
+      pub appends_accepted : (k : ℕ) → k < n → r k ≡ Ok tt
       appends_accepted k h = accepted k h (grown k (omega arith))
 
       pub appends_then_read : (out : List ℕ) {q : Answer} {out' : List ℕ} → FramesRead key (file n) out q out' → 64 * n ≤ length out
-          → (q ≡ Done) × (out' ≡ over (end_to_end rec n) out)
+          → (q ≡ Ok tt) × (out' ≡ over (end_to_end rec n) out)
       appends_then_read out {q} {out'} x h =
           let f = filed n (omega arith) in
           let s = frames_of bits rec iv n in
           let y : FramesRead key s out q out' = rw (grown n (omega arith)) at x in
           let two = relisted 4 2 s f.file in
-          let d : q ≡ Done = y.answered ∙ lent_read key s (length out) record {
+          let d : q ≡ Ok tt = y.answered ∙ lent_read key s (length out) record {
             keyed = b;
             file = two;
             whole = file_whole 2 s two;
@@ -194,7 +195,7 @@ module _ (key : List ℕ) (rec iv : ℕ → List ℕ) where
 
 -- ---- no IV twice
 
-pub ivs_rise : (l : ℕ) (s : List ℕ) → file_answer l s ≡ Done → (i j : ℕ) → i < j → j < frames_in s → iv_number s i < iv_number s j
+pub ivs_rise : (l : ℕ) (s : List ℕ) → file_answer l s ≡ Ok tt → (i j : ℕ) → i < j → j < frames_in s → iv_number s i < iv_number s j
 unfolding rises
 ivs_rise l s f i zero h g = absurd (omega arith)
 ivs_rise l s f i (suc j) h g =
@@ -202,7 +203,7 @@ ivs_rise l s f i (suc j) h g =
     ⊎_elim (λ (q : i ≡ j). rw q e) (λ (q : i < j). omega (arith, ivs_rise l s f i j q (omega arith))) (eq-or-lt_of_le {n = i} {m = j} (omega arith))
 
 -- In a file that is accepted no IV stands twice; its places hold bytes.
-pub no_iv_twice : (l : ℕ) (s : List ℕ) → ((i : ℕ) → get_or s i 0 < 256) → file_answer l s ≡ Done → (i j : ℕ) → i < j → j < frames_in s
+pub no_iv_twice : (l : ℕ) (s : List ℕ) → ((i : ℕ) → get_or s i 0 < 256) → file_answer l s ≡ Ok tt → (i j : ℕ) → i < j → j < frames_in s
     → unpacked s (start i + 2) 128 ≡ unpacked s (start j + 2) 128 → ⊥
 unfolding iv_number
 no_iv_twice l s b f i j h g e =
@@ -212,10 +213,10 @@ no_iv_twice l s b f i j h g e =
 
 -- ---- checking and reading
 
-end_done : (a : Answer) → a ▹ Done ≡ a
+end_done : (a : Answer) → a ▹ Ok tt ≡ a
 unfolding ◌▹◌
-end_done Done = refl
-end_done (Refused n l p) = refl
+end_done (Ok _) = refl
+end_done (Err r) = refl
 
 -- `check` answers as `read` does with key and room in order, but for the list's number.
 pub check_as_read : (key s : List ℕ) (n : ℕ) → Keyed 6 key → 64 * frames_in s ≤ n → frames_read_answer key s n ≡ on_list 2 (file_answer 1 s)
@@ -223,7 +224,7 @@ unfolding frames_read_answer
 check_as_read key s n b h =
     passed (keyed_length 1 6 key b) (passed (keyed_bits 1 6 key b) (ap (λ (a : Answer). file_answer 2 s ▹ a) (done_room 3 n (64 * frames_in s) h) ∙ end_done (file_answer 2 s) ∙ sym (file_on_list 2 1 s)))
   where
-    passed : {a b c : Answer} → a ≡ Done → b ≡ c → a ▹ b ≡ c
+    passed : {a b c : Answer} → a ≡ Ok tt → b ≡ c → a ▹ b ≡ c
     passed e g = sym (pass e (sym g))
 
 -- ---- the last frame in place of the file
@@ -231,10 +232,10 @@ check_as_read key s n b h =
 -- 16 with another place, row by row
 placed_row : (p : ℕ) (a b : Answer) → sixteen_at p (a ▹ b) ≡ sixteen_at p a ▹ sixteen_at p b
 unfolding sixteen_at ◌▹◌
-placed_row p Done b = refl
-placed_row p (Refused n l q) b = refl
+placed_row p (Ok _) b = refl
+placed_row p (Err r) b = refl
 
-placed_refuse : (p n l q : ℕ) (b : Bool) → sixteen_at p (refuse n l q b) ≡ refuse n l (choose (eqb n 16) p q) b
+placed_refuse : (p : ℕ) (n : Reason) (l q : ℕ) (b : Bool) → sixteen_at p (refuse n l q b) ≡ refuse n l (choose (eqb (reason_number n) 16) p q) b
 unfolding sixteen_at refuse
 placed_refuse p n l q true = refl
 placed_refuse p n l q false = refl
@@ -242,18 +243,18 @@ placed_refuse p n l q false = refl
 lengths_placed : (p : ℕ) (key rec iv : List ℕ) → sixteen_at p (lengths_answer key rec iv) ≡ lengths_answer key rec iv
 unfolding lengths_answer key_length_answer length_answer
 lengths_placed p key rec iv =
-    placed_row p _ _ ∙ ap₂ ◌▹◌ (placed_refuse p 3 1 _ _) (placed_row p _ _ ∙ ap₂ ◌▹◌ (placed_refuse p 3 2 _ _) (placed_refuse p 3 3 _ _))
+    placed_row p _ _ ∙ ap₂ ◌▹◌ (placed_refuse p Length 1 _ _) (placed_row p _ _ ∙ ap₂ ◌▹◌ (placed_refuse p Length 2 _ _) (placed_refuse p Length 3 _ _))
 
 bits_placed : (p : ℕ) (key rec iv : List ℕ) → sixteen_at p (three_bits_answer key rec iv) ≡ three_bits_answer key rec iv
 unfolding three_bits_answer key_bits_answer bits_answer first_answer
 bits_placed p key rec iv =
-    placed_row p _ _ ∙ ap₂ ◌▹◌ (placed_refuse p 4 1 _ _) (placed_row p _ _ ∙ ap₂ ◌▹◌ (placed_refuse p 4 2 _ _) (placed_refuse p 4 3 _ _))
+    placed_row p _ _ ∙ ap₂ ◌▹◌ (placed_refuse p Bit 1 _ _) (placed_row p _ _ ∙ ap₂ ◌▹◌ (placed_refuse p Bit 2 _ _) (placed_refuse p Bit 3 _ _))
 
 room_placed : (p n : ℕ) → sixteen_at p (room_answer 5 n frame_size) ≡ room_answer 5 n frame_size
 unfolding room_answer
-room_placed p n = placed_refuse p 8 5 n _
+room_placed p n = placed_refuse p Room 5 n _
 
-module _ (s : List ℕ) (l : ℕ) (f : file_answer l s ≡ Done) where
+module _ (s : List ℕ) (l : ℕ) (f : file_answer l s ≡ Ok tt) where
   whole : Whole (frames_in s) s
   whole = file_whole l s f
 
@@ -300,7 +301,7 @@ module _ (s : List ℕ) (l : ℕ) (f : file_answer l s ≡ Done) where
       go zero e = a e
       go (suc k) e = b k e
 
-  last_accepted : (m : ℕ) → file_answer m (last_of s) ≡ Done
+  last_accepted : (m : ℕ) → file_answer m (last_of s) ≡ Ok tt
   unfolding rises
   last_accepted m =
       by_frames
@@ -310,7 +311,7 @@ module _ (s : List ℕ) (l : ℕ) (f : file_answer l s ≡ Done) where
       let z : j ≡ 0 = omega (arith, one_frame k e) in
       rw z (frame_done m (last_of s) 0 (last_begins k e) refl)))
 
-  last_sized : (m : ℕ) → last_answer m (length (last_of s)) ≡ Done
+  last_sized : (m : ℕ) → last_answer m (length (last_of s)) ≡ Ok tt
   last_sized m = by_frames (λ e. sym (last_none m _ (none e))) (λ k e. sym (last_whole m _ (one_frame k e)))
 
   last_above : (iv : List ℕ) → above (last_of s) (frames_in (last_of s)) iv ≡ above s (frames_in s) iv
@@ -325,23 +326,23 @@ module _ (s : List ℕ) (l : ℕ) (f : file_answer l s ≡ Done) where
       ap (λ (n : ℕ). above (last_of s) n iv) z ∙ ap (λ (x : ℕ). ltb x (iv_value iv)) (last_iv k e) ∙ sym (ap (λ (n : ℕ). above s n iv) e))
 
   -- without a last frame there is no 16
-  last_place : (m : ℕ) (iv : List ℕ) → refuse 16 m (length (last_of s)) (not (above s (frames_in s) iv)) ≡ refuse 16 m frame_size (not (above s (frames_in s) iv))
+  last_place : (m : ℕ) (iv : List ℕ) → refuse Order m (length (last_of s)) (not (above s (frames_in s) iv)) ≡ refuse Order m frame_size (not (above s (frames_in s) iv))
   unfolding above refuse
   last_place m iv =
       by_frames
-      (λ e. ap (λ (n : ℕ). refuse 16 m (length (last_of s)) (not (above s n iv))) e ∙ sym (ap (λ (n : ℕ). refuse 16 m frame_size (not (above s n iv))) e))
-      (λ k e. ap (λ (n : ℕ). refuse 16 m n (not (above s (frames_in s) iv))) (one_frame k e))
+      (λ e. ap (λ (n : ℕ). refuse Order m (length (last_of s)) (not (above s n iv))) e ∙ sym (ap (λ (n : ℕ). refuse Order m frame_size (not (above s n iv))) e))
+      (λ k e. ap (λ (n : ℕ). refuse Order m n (not (above s (frames_in s) iv))) (one_frame k e))
 
-  file_placed : Done ≡ sixteen_at frame_size (file_answer 4 s)
+  file_placed : Ok tt ≡ sixteen_at frame_size (file_answer 4 s)
   unfolding sixteen_at
   file_placed = sym (ap (sixteen_at frame_size) (relisted l 4 s f))
 
   last_new : (m : ℕ) (iv : List ℕ) → new_answer m (last_of s) iv ≡ sixteen_at frame_size (new_answer m s iv)
   unfolding new_answer
   last_new m iv =
-      ap (λ (b : Bool). refuse 16 m (length (last_of s)) (not b)) (last_above iv)
+      ap (λ (b : Bool). refuse Order m (length (last_of s)) (not b)) (last_above iv)
       ∙ last_place m iv
-      ∙ sym (placed_refuse frame_size 16 m (length s) (not (above s (frames_in s) iv)))
+      ∙ sym (placed_refuse frame_size Order m (length s) (not (above s (frames_in s) iv)))
 
   -- `append_after`, lent the last frame of a file that `check` accepts, or nothing where it is empty, answers what `append`
   -- does, but for the place of 16.
@@ -358,8 +359,8 @@ module _ (s : List ℕ) (l : ℕ) (f : file_answer l s ≡ Done) where
 
   left_placed : (a : Answer) (front old : List ℕ) → left (sixteen_at frame_size a) front old ≡ left a front old
   unfolding left sixteen_at
-  left_placed Done front old = refl
-  left_placed (Refused n m q) front old = refl
+  left_placed (Ok _) front old = refl
+  left_placed (Err r) front old = refl
 
   -- And it writes what `append` writes.
   pub after_writes : (key rec iv out : List ℕ) {r q : Answer} {o p : List ℕ} → AppendedAfter key rec iv (last_of s) out r o → Appended key rec iv s out q p

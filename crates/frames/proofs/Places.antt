@@ -10,7 +10,7 @@ use native.Mathlib.Omega.{arith}
 use lib.ListN.{length, get_or, length-append, get_or-append}
 use lib.Seq.{ext_get_or, get_or-append-add}
 use lib.Dec.{ltb}
-use Rattle.answer.specs.declared.Answer.TheVariants.{Done}
+use Rattle.std.specs.Prelude.{Ok}
 use Rattle.answer.specs.Fronts.{over}
 use Rattle.answer.proofs.Over.{over-at}
 use Rattle.filter.proofs.Tab.{tab-at, tab-same}
@@ -170,7 +170,7 @@ module _ (s bits rec iv : List ℕ) (w : Whole (frames_in s) s) where
   new_rises zero e = refl
   new_rises (suc k) e = ap₂ ltb (old_iv k (omega arith)) (ap (iv_number more) (sym e) ∙ new_iv)
 
-  pub more_file : (l m : ℕ) → file_answer l s ≡ Done → new_answer l s iv ≡ Done → file_answer m more ≡ Done
+  pub more_file : (l m : ℕ) → file_answer l s ≡ Ok tt → new_answer l s iv ≡ Ok tt → file_answer m more ≡ Ok tt
   more_file l m f n =
       file_done m more
       (λ k h.

@@ -4,7 +4,7 @@ use mathlib.Core.Path.{◌≡◌, refl, sym, ap, ap₂, ◌∙◌}
 use mathlib.Core.List.{List, [], ◌++◌}
 use native.Mathlib.Omega.{arith}
 use lib.ListN.{length, get_or, take, drop, length-append}
-use lib.Seq.{get_or-take, get_or-drop, take_all}
+use lib.Seq.{take-append_seam, drop-append_seam, get_or-take, get_or-drop, take_all}
 use Rattle.answer.specs.Bits.{added}
 use Rattle.answer.specs.Fronts.{over}
 use Rattle.answer.proofs.Added.{added-length, added-bits, added_twice}
@@ -12,7 +12,7 @@ use Rattle.answer.proofs.Judges.{bits-within}
 use Rattle.filter.specs.Filter.{tab}
 use Rattle.filter.proofs.Tab.{tab_add, tab-at, tab-length, tab-same}
 use Rattle.kreyvium.specs.Words.{bit, tops}
-use Rattle.kreyvium.proofs.Bits.{bit_small}
+use Rattle.kreyvium.proofs.Bits.{bit_small, length-tops}
 use Rattle.kreyvium.specs.Kreyvium.{stream_of}
 use Rattle.kreyvium.proofs.Streams.{stream-length}
 use Rattle.cipher.specs.Cipher.{keystream_of, encipher_of}
@@ -70,13 +70,21 @@ packed_halves b =
     halves : packed 16 b ≡ tab (λ k. value_at 2 b (8 * k) 8) 8 ++ tab (λ k. value_at 2 b (8 * (8 + k)) 8) 8
     halves = tab_add _ 8 8
 
-pub frame_written : (bits rec iv : List ℕ) (v0 v1 x : ℕ) → length rec ≡ 64 → tops 64 v0 ≡ take 64 (drop 0 iv) → tops 64 v1 ≡ take 64 (drop 64 iv)
-    → tops 64 x ≡ added (take 64 (drop 0 rec)) (stream_of bits iv 64)
-    → mark_bytes ++ packed 8 (tops 64 v0) ++ packed 8 (tops 64 v1) ++ packed 8 (tops 64 x) ≡ frame_of bits rec iv
+pub packed_words : (x y : ℕ) → packed 8 (tops 64 x) ++ packed 8 (tops 64 y) ≡ packed 16 (tops 64 x ++ tops 64 y)
+packed_words x y =
+    let a = tops 64 x in
+    let b = tops 64 y in
+    let first : take 64 (a ++ b) ≡ a = ap (λ (n : ℕ). take n (a ++ b)) (sym (length-tops 64 x)) ∙ take-append_seam a b in
+    let second : drop 64 (a ++ b) ≡ b = ap (λ (n : ℕ). drop n (a ++ b)) (sym (length-tops 64 x)) ∙ drop-append_seam a b in
+    ap₂ (λ (c d : List ℕ). packed 8 c ++ packed 8 d) (sym first) (sym (ap (take 64) second ∙ take_all 64 b (omega (arith, length-tops 64 y))))
+    ∙ sym (packed_halves (a ++ b))
+
+pub frame_written : (bits rec iv : List ℕ) {v : List ℕ} (x : ℕ) → length rec ≡ 64 → v ≡ iv → tops 64 x ≡ added (take 64 (drop 0 rec)) (stream_of bits v 64)
+    → mark_bytes ++ packed 16 v ++ packed 8 (tops 64 x) ≡ frame_of bits rec iv
 unfolding frame_of
-frame_written bits rec iv v0 v1 x l e0 e1 ex =
+frame_written bits rec iv x l e ex =
     let r : take 64 (drop 0 rec) ≡ rec = take_all 64 rec (omega arith) in
-    rw (e0, e1, ex, r, ← kreyvium_of bits rec iv, packed_halves iv) refl
+    rw (ex, e, r, ← kreyvium_of bits rec iv) refl
 
 -- ---- reading
 
@@ -107,14 +115,11 @@ records_length bits s zero = refl
 records_length bits s (suc n) = length-append (records_in bits s n) (record_in bits s n) ∙ omega (arith, records_length bits s n, record_length bits s n)
 
 -- the word of frame k with its keystream taken off
-pub record_read : (bits s : List ℕ) (k v0 v1 c x : ℕ) → tops 64 v0 ≡ unpacked s (start k + 2) 64 → tops 64 v1 ≡ unpacked s (start k + 10) 64
-    → tops 64 c ≡ unpacked s (start k + 18) 64 → tops 64 x ≡ added (tops 64 c) (stream_of bits (tops 64 v0 ++ tops 64 v1) 64) → tops 64 x ≡ record_in bits s k
+pub record_read : (bits s : List ℕ) (k : ℕ) {v : List ℕ} (c x : ℕ) → v ≡ unpacked s (start k + 2) 128 → tops 64 c ≡ unpacked s (start k + 18) 64
+    → tops 64 x ≡ added (tops 64 c) (stream_of bits v 64) → tops 64 x ≡ record_in bits s k
 unfolding record_in
-record_read bits s k v0 v1 c x e0 e1 ec ex =
-    let p : start k + 2 + 8 ≡ start k + 10 = omega arith in
-    ex
-    ∙ ap₂ (λ (a b : List ℕ). added a (stream_of bits b 64)) ec (ap₂ ◌++◌ e0 (e1 ∙ ap (λ (q : ℕ). unpacked s q 64) (sym p)) ∙ sym (unpacked_halves s (start k + 2)))
-    ∙ sym (kreyvium_of bits _ _)
+record_read bits s k c x e ec ex =
+    ex ∙ ap₂ (λ (a b : List ℕ). added a (stream_of bits b 64)) ec e ∙ sym (kreyvium_of bits _ _)
 
 -- For a loop: no record yet, one more.
 pub records_none : (bits s old : List ℕ) → old ≡ over (records_in bits s 0) old

@@ -1,8 +1,7 @@
 -- Port frames, and calls on files of them: docs/RULES.md, "Frames", in its order and with its numbers.
-use Rattle.std.specs.Prelude.{ℕ, zero, suc, ◌+◌, ◌*◌, ◌-◌, ◌<◌, ◌≡◌, Bool, true, not, List, [], ◌∷◌, ◌++◌, length, drop, ltb, eqb}
-use Rattle.answer.specs.declared.Answer.{Answer}
-use Rattle.answer.specs.declared.Answer.TheVariants.{Done, Refused}
-use Rattle.answer.specs.Answers.{◌▹◌, refuse}
+use Rattle.answer.specs.declared.Reason.TheVariants.{Length, Order}
+use Rattle.std.specs.Prelude.{ℕ, zero, suc, ◌+◌, ◌*◌, ◌-◌, ◌<◌, ◌≡◌, Bool, true, not, List, [], ◌∷◌, ◌++◌, length, drop, ltb, eqb, Err, Ok}
+use Rattle.answer.specs.Answers.{Answer, reason_number, refused, ◌▹◌, refuse}
 use Rattle.answer.specs.Bits.{bits_answer}
 use Rattle.answer.specs.Choose.{choose}
 use Rattle.answer.specs.Fronts.{left}
@@ -41,7 +40,7 @@ records_in bits s (suc k) = records_in bits s k ++ record_in bits s k
 
 -- 16 of a new frame, whose start is the file's length
 unfoldable pub new_answer : ℕ → List ℕ → List ℕ → Answer
-new_answer l s iv = refuse 16 l (length s) (not (above s (frames_in s) iv))
+new_answer l s iv = refuse Order l (length s) (not (above s (frames_in s) iv))
 
 -- 3 and 4 on key 1, record 2 and IV 3
 unfoldable pub lengths_answer : List ℕ → List ℕ → List ℕ → Answer
@@ -60,7 +59,7 @@ append_answer key rec iv s n = lengths_answer key rec iv ▹ three_bits_answer k
 
 -- 3 on a last frame that is neither missing nor of 26 bytes
 unfoldable pub last_answer : ℕ → ℕ → Answer
-last_answer l len = refuse 3 l len (not (choose (eqb len 0) true (eqb len frame_size)))
+last_answer l len = refuse Length l len (not (choose (eqb len 0) true (eqb len frame_size)))
 
 -- lists: key, record, IV, last frame, frame. The last frame is judged as the file is.
 unfoldable pub append_after_answer : List ℕ → List ℕ → List ℕ → List ℕ → ℕ → Answer
@@ -109,10 +108,10 @@ last_of s = drop (length s - frame_size) s
 
 -- an answer about another list
 unfoldable pub on_list : ℕ → Answer → Answer
-on_list l Done = Done
-on_list l (Refused number list place) = Refused number l place
+on_list l (Ok _) = Ok tt
+on_list l (Err r) = refused r.reason l r.place
 
 -- an answer in which 16 has another place
 unfoldable pub sixteen_at : ℕ → Answer → Answer
-sixteen_at p Done = Done
-sixteen_at p (Refused number list place) = Refused number list (choose (eqb number 16) p place)
+sixteen_at p (Ok _) = Ok tt
+sixteen_at p (Err r) = refused r.reason r.list (choose (eqb (reason_number r.reason) 16) p r.place)

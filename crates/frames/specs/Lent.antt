@@ -1,6 +1,5 @@
 -- What an accepted call was lent.
-use Rattle.std.specs.Prelude.{ℕ, ◌≤◌, ◌≡◌, List}
-use Rattle.answer.specs.declared.Answer.TheVariants.{Done}
+use Rattle.std.specs.Prelude.{ℕ, ◌≤◌, ◌≡◌, List, Ok}
 use Rattle.instance.specs.Keys.{Keyed}
 use Rattle.port.specs.Bytes.{BitList}
 use Rattle.sequence.specs.Files.{frame_size, file_answer}
@@ -12,5 +11,5 @@ pub record AppendLent (key rec iv s : List ℕ) (n : ℕ) : Type 0 where
   pub record_bits : BitList 64 rec
   pub iv_bits : BitList 128 iv
   pub room : frame_size ≤ n
-  pub file : file_answer 4 s ≡ Done
-  pub rise : new_answer 4 s iv ≡ Done
+  pub file : file_answer 4 s ≡ Ok tt
+  pub rise : new_answer 4 s iv ≡ Ok tt

@@ -4,6 +4,7 @@
 #![tactic(auto)]
 
 mod bytes;
+mod iv;
 mod judge;
 mod seal;
 
@@ -11,18 +12,17 @@ ghost use Rattle.std.specs.Prelude.{◌≡◌};
 ghost use Rattle.sequence.specs.Files.{file_answer};
 ghost use Rattle.frames.specs.Frames.{Appended, AppendedAfter, FramesRead};
 
+use crate::iv::Iv;
+use crate::seal::Key;
 use answer::Answer;
 
 // Judges key, record, IV and the file so far, and writes the new frame, which the caller puts at the file's end.
 pub fn append(key: &[u8], record: &[u8], iv: &[u8], file: &[u8], frame: &mut [u8]) -> Answer
     ensures { Appended key.now «record».now iv.now file.now frame.old result frame.new }
 {
-    let r = judge::append(key, record, iv, file, frame.len());
-    let Answer::Done = r else {
-        return r;
-    };
-    seal::put_frame(key, record, iv, frame);
-    Answer::Done
+    judge::append(key, record, iv, file, frame.len())?;
+    seal::put_frame(Key::lent(key), record, Iv::of_bits(iv), frame);
+    Ok(())
 }
 
 // The same for a caller who has judged the file, with `check` or `read`, and lends its last frame in place of it, or
@@ -31,24 +31,18 @@ pub fn append(key: &[u8], record: &[u8], iv: &[u8], file: &[u8], frame: &mut [u8
 pub fn append_after(key: &[u8], record: &[u8], iv: &[u8], last: &[u8], frame: &mut [u8]) -> Answer
     ensures { AppendedAfter key.now «record».now iv.now last.now frame.old result frame.new }
 {
-    let r = judge::append_after(key, record, iv, last, frame.len());
-    let Answer::Done = r else {
-        return r;
-    };
-    seal::put_frame(key, record, iv, frame);
-    Answer::Done
+    judge::append_after(key, record, iv, last, frame.len())?;
+    seal::put_frame(Key::lent(key), record, Iv::of_bits(iv), frame);
+    Ok(())
 }
 
 // Every record of a file, 64 bits a frame, end to end. The whole file is judged before any record is given out.
 pub fn read(key: &[u8], file: &[u8], records: &mut [u8]) -> Answer
     ensures { FramesRead key.now file.now records.old result records.new }
 {
-    let r = judge::read(key, file, records.len());
-    let Answer::Done = r else {
-        return r;
-    };
-    seal::put_records(key, file, records);
-    Answer::Done
+    judge::read(key, file, records.len())?;
+    seal::put_records(Key::lent(key), file, records);
+    Ok(())
 }
 
 // Whether a file is one: 15 and 16 alone, for those who hold no key.

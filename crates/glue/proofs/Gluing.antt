@@ -4,8 +4,8 @@ use mathlib.Core.Path.{◌≡◌, refl, sym, ap, subst, ◌∙◌}
 use mathlib.Core.List.{List}
 use native.Mathlib.Omega.{arith}
 use lib.ListN.{length}
-use Rattle.answer.specs.declared.Answer.{Answer}
-use Rattle.answer.specs.declared.Answer.TheVariants.{Done}
+use Rattle.std.specs.Prelude.{Ok}
+use Rattle.answer.specs.Answers.{Answer}
 use Rattle.answer.specs.Fronts.{over}
 use Rattle.answer.proofs.Over.{made}
 use Rattle.netlist.specs.Net.{Net, eval, depth, mults}
@@ -21,7 +21,7 @@ use Rattle.glue.proofs.Accepted.{fit_done}
 
 -- Gluing accepts them and writes the glued netlist, which is accepted.
 pub glue_accepts : (a b out : List ℕ) {r : Answer} {out' : List ℕ} → GluedAs a b out r out' → Fit a b (length out)
-    → (r ≡ Done) × (out' ≡ over (glued_words a b) out)
+    → (r ≡ Ok tt) × (out' ≡ over (glued_words a b) out)
 glue_accepts a b out g f =
     let e = g.answered ∙ fit_done a b (length out) f in
     (e, g.written ∙ sym (made _ _ e))
@@ -47,7 +47,7 @@ module _ (a b : List ℕ) (n : ℕ) (f : Fit a b n) where
         outputs = omega (arith, glued_outputs, f.second.limits.outputs);
       }
 
-  pub glued_accepted : (l : ℕ) → net_answer l (glued_words a b) ≡ Done
+  pub glued_accepted : (l : ℕ) → net_answer l (glued_words a b) ≡ Ok tt
   glued_accepted l = sound_done l (glued_words a b) glued_sound
 
   -- It answers as the second does on the first's outputs, for every input.
@@ -73,7 +73,7 @@ module _ (a b c : List ℕ) (n : ℕ) (t : FitThree a b c n) where
   back_fit : Fit b c (glued_size b c)
   back_fit = record { first = t.second; second = t.third; space = omega arith; fits = t.fits'; few = omega (arith, t.few) }
 
-  pub front-first : glue_answer (glued_words a b) c n ≡ Done
+  pub front-first : glue_answer (glued_words a b) c n ≡ Ok tt
   front-first =
       fit_done (glued_words a b) c n
       record {
@@ -84,7 +84,7 @@ module _ (a b c : List ℕ) (n : ℕ) (t : FitThree a b c n) where
         few = omega (arith, glued_gates a b _ front_fit, t.few);
       }
 
-  pub back-first : glue_answer a (glued_words b c) n ≡ Done
+  pub back-first : glue_answer a (glued_words b c) n ≡ Ok tt
   back-first =
       fit_done a (glued_words b c) n
       record {
@@ -108,7 +108,7 @@ pass_sound n h =
     record { inputs = omega arith; gates = omega arith; outputs = omega (arith, up_from-length 0 n) }
 
 pub pass_before : (b : List ℕ) → Sound b → inputs_of b ≤ output_limit
-    → (glue_answer (words (pass (inputs_of b))) b (length b) ≡ Done) × (glued_words (words (pass (inputs_of b))) b ≡ b)
+    → (glue_answer (words (pass (inputs_of b))) b (length b) ≡ Ok tt) × (glued_words (words (pass (inputs_of b))) b ≡ b)
 pass_before b s h = (
   fit_done _ b (length b)
       record {
@@ -122,7 +122,7 @@ pass_before b s h = (
 )
 
 pub pass_after : (a : List ℕ) → Sound a
-    → (glue_answer a (words (pass (outputs_of a))) (length a) ≡ Done) × (glued_words a (words (pass (outputs_of a))) ≡ a)
+    → (glue_answer a (words (pass (outputs_of a))) (length a) ≡ Ok tt) × (glued_words a (words (pass (outputs_of a))) ≡ a)
 pass_after a s =
     let l : length (up_from 0 (outputs_of a)) ≡ outputs_of a = up_from-length 0 (outputs_of a) in (
       fit_done a _ (length a)

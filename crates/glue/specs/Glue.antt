@@ -1,7 +1,7 @@
 -- Gluing two netlists. Lists: 1 the first, 2 the second, 3 the result.
+use Rattle.answer.specs.declared.Reason.TheVariants as reason
 use Rattle.std.specs.Prelude.{ℕ, ◌+◌, ◌≤◌, ◌≡◌, not, List, length, ltb, eqb}
-use Rattle.answer.specs.declared.Answer.{Answer}
-use Rattle.answer.specs.Answers.{◌▹◌, refuse}
+use Rattle.answer.specs.Answers.{Answer, ◌▹◌, refuse}
 use Rattle.answer.specs.Fronts.{left}
 use Rattle.answer.specs.Judges.{room_answer}
 use Rattle.netlist.specs.declared.counts.Counts.{Counts}
@@ -19,7 +19,7 @@ glued_size a b = word_count (glued_counts (counts_of a) (counts_of b))
 
 -- 10: the first's outputs are not as many as the second's inputs; 11: too many gates
 abbrev pub fit_answer : Counts → Counts → Answer
-fit_answer a b = refuse 10 0 0 (not (eqb a.outputs b.inputs)) ▹ refuse 11 0 0 (ltb gate_limit (glued_counts a b).gates)
+fit_answer a b = refuse reason.Fit 0 0 (not (eqb a.outputs b.inputs)) ▹ refuse reason.Gates 0 0 (ltb gate_limit (glued_counts a b).gates)
 
 -- 9 of the first, 9 of the second, 8, 10, 11, where n words are lent for the result
 unfoldable pub glue_answer : List ℕ → List ℕ → ℕ → Answer

@@ -14,26 +14,11 @@ ghost use Rattle.netlist.specs.Sound.{Limits};
 ghost use Rattle.glue.specs.Glue.{glued_counts, fit_answer, glue_answer, glued_words, GluedAs, Fit};
 ghost use Rattle.glue.specs.Inner.{SmallAll, second_words, Second};
 
-use answer::Answer;
+use answer::{Answer, Reason};
 use netlist::counts::{Counts, counts_of, put_header, word_count};
-use netlist::gate::Taken;
 use netlist::{GATE_STRIDE, HEADER_WORDS};
 
-// Where wire i of the second netlist stands, if used is 1: outs are the first's outputs, base the number of
-// its wires. If it is 0, 0: reckoned with and not branched on, since kinds come in no order.
-fn wire(outs: &[u32], base: u32, used: u32, i: u32) -> u32
-    requires { (used ≤ 1) × (length outs.now ≤ output_limit) × (base + i < 4294967296) }
-    ensures { result ≡ choose (ltb 0 used) (thru outs.now base i) 0 }
-{
-    let inputs = used * (outs.len() as u32);
-    if i < inputs {
-        let k = i as usize;
-        let output = outs[k];
-        return output;
-    }
-    used * (base + i) - inputs
-}
-
+// A gate's four words. They are not a Gate: the kind is the second's own, and each operand is reckoned alone.
 fn put_gate(out: &mut [u32], at: usize, kind: u32, a: u32, b: u32, c: u32)
     requires { at + gate_stride ≤ length out.old }
     ensures { out.new ≡ sets out.old at (kind ∷ a ∷ b ∷ c ∷ []) }
@@ -44,66 +29,83 @@ fn put_gate(out: &mut [u32], at: usize, kind: u32, a: u32, b: u32, c: u32)
     out[at + 3] = c;
 }
 
-// The second netlist's gates. In an accepted netlist every kind is known: the walk does not end at one that
-// is not.
-fn put_gates(second: &[u32], gates: usize, outs: &[u32], base: u32, out: &mut [u32])
-    requires { (Second second.now outs.now base (length out.old)) × (gates ≡ gates_of second.now) }
-    ensures { out.new ≡ over (gates_words (map (ren (thru outs.now base)) (gates_at second.now header_words gates))) out.old }
-{
-    let mut g: usize = 0;
-    while g < gates {
-        let at = HEADER_WORDS + GATE_STRIDE * g;
-        let kind = second[at];
-        let i = second[at + 1];
-        let j = second[at + 2];
-        let k = second[at + 3];
-        let t = netlist::gate::take_apart(kind, i, j, k);
-        let Taken::Known(gate) = t else {
-            return;
-        };
-        let used = netlist::gate::used(gate);
-        let a = wire(outs, base, used % 2, i);
-        let b = wire(outs, base, used / 2 % 2, j);
-        let c = wire(outs, base, used / 4, k);
-        put_gate(out, GATE_STRIDE * g, kind, a, b, c);
-        g += 1;
+// The seam of two glued netlists: the outputs of the first, which the inputs of the second become, and the number
+// of the first's wires, after which the second's gates come.
+#[derive(Clone, Copy)]
+struct Seam<'a> {
+    outs: &'a [u32],
+    base: u32,
+}
+
+impl Seam<'_> {
+    // Where wire i of the second netlist stands, if used is 1. If it is 0, 0: reckoned with and not branched on,
+    // since kinds come in no order.
+    fn wire(self, used: u32, i: u32) -> u32
+        requires { (used ≤ 1) × (length self.outs.now ≤ output_limit) × (self.base + i < 4294967296) }
+        ensures { result ≡ choose (ltb 0 used) (thru self.entry.outs.now self.entry.base i) 0 }
+    {
+        let inputs = used * (self.outs.len() as u32);
+        if i < inputs {
+            let k = i as usize;
+            let output = self.outs[k];
+            return output;
+        }
+        used * (self.base + i) - inputs
+    }
+
+    // The second netlist's gates. In an accepted netlist every kind is known: the walk does not end at one that
+    // is not.
+    fn put_gates(self, second: &[u32], gates: usize, out: &mut [u32])
+        requires { (Second second.now self.outs.now self.base (length out.old)) × (gates ≡ gates_of second.now) }
+        ensures { out.new ≡ over (gates_words (map (ren (thru self.entry.outs.now self.entry.base)) (gates_at second.now header_words gates))) out.old }
+    {
+        for g in 0..gates {
+            let at = HEADER_WORDS + GATE_STRIDE * g;
+            let kind = second[at];
+            let i = second[at + 1];
+            let j = second[at + 2];
+            let k = second[at + 3];
+            let Some(gate) = netlist::gate::take_apart(kind, i, j, k) else {
+                return;
+            };
+            let used = netlist::gate::used(gate);
+            let a = self.wire(used % 2, i);
+            let b = self.wire(used / 2 % 2, j);
+            let c = self.wire(used / 4, k);
+            put_gate(out, GATE_STRIDE * g, kind, a, b, c);
+        }
+    }
+
+    // The second netlist's outputs, which are the given words of it.
+    fn put_outputs(self, wires: &[u32], out: &mut [u32])
+        requires { (length wires.now ≤ length out.old) × SmallAll self.base wires.now × (length self.outs.now ≤ output_limit) }
+        ensures { out.new ≡ over (map (thru self.entry.outs.now self.entry.base) wires.now) out.old }
+    {
+        for (o, &i) in wires.iter().enumerate() {
+            out[o] = self.wire(1, i);
+        }
+    }
+
+    // The second netlist's gates and outputs, from the front of what is lent.
+    fn put_second(self, second: &[u32], out: &mut [u32])
+        requires { Second second.now self.outs.now self.base (length out.old) }
+        ensures { out.new ≡ over (second_words second.now self.entry.outs.now self.entry.base) out.old }
+    {
+        let gates = counts_of(second).gates as usize;
+        let start = HEADER_WORDS + GATE_STRIDE * gates;
+        let end = GATE_STRIDE * gates;
+        self.put_gates(second, gates, out);
+        self.put_outputs(&second[start..], &mut out[end..]);
     }
 }
 
-// The second netlist's outputs, which are the given words of it.
-fn put_outputs(wires: &[u32], outs: &[u32], base: u32, out: &mut [u32])
-    requires { (length wires.now ≤ length out.old) × SmallAll base wires.now × (length outs.now ≤ output_limit) }
-    ensures { out.new ≡ over (map (thru outs.now base) wires.now) out.old }
-{
-    let mut o: usize = 0;
-    while o < wires.len() {
-        let w = wire(outs, base, 1, wires[o]);
-        out[o] = w;
-        o += 1;
-    }
-}
-
-// The second netlist's gates and outputs, from the front of what is lent.
-fn put_second(second: &[u32], outs: &[u32], base: u32, out: &mut [u32])
-    requires { Second second.now outs.now base (length out.old) }
-    ensures { out.new ≡ over (second_words second.now outs.now base) out.old }
-{
-    let gates = counts_of(second).gates as usize;
-    let start = HEADER_WORDS + GATE_STRIDE * gates;
-    let end = GATE_STRIDE * gates;
-    put_gates(second, gates, outs, base, out);
-    put_outputs(&second[start..], outs, base, &mut out[end..]);
-}
-
+// A list's words, at the front. It asks for room, which a public function may not: evaluate has its own, for bytes.
+#[tactic(auto, unfolding(answer::specs::Fronts::over))]
 fn copy(from: &[u32], out: &mut [u32])
     requires { length from.now ≤ length out.old }
     ensures { out.new ≡ over from.now out.old }
 {
-    let mut i: usize = 0;
-    while i < from.len() {
-        out[i] = from[i];
-        i += 1;
-    }
+    out[..from.len()].copy_from_slice(from);
 }
 
 // The glued netlist's counts.
@@ -129,52 +131,47 @@ fn write(first: &[u32], second: &[u32], out: &mut [u32])
     let at = HEADER_WORDS + GATE_STRIDE * (gates as usize);
     put_header(out, glued(counts, counts_of(second)));
     copy(&first[HEADER_WORDS..at], &mut out[HEADER_WORDS..]);
-    put_second(second, &first[at..], inputs + gates, &mut out[at..]);
+    let seam = Seam {
+        outs: &first[at..],
+        base: inputs + gates,
+    };
+    seam.put_second(second, &mut out[at..]);
 }
 
 // Whether the two fit, and have not too many gates.
+#[tactic(auto, using(answer::proofs::Rows::stop, answer::proofs::Rows::pass), unfolding(answer::specs::Answers::refuse))]
 fn fitting(a: Counts, b: Counts) -> Answer
     requires { Limits a × Limits b }
     ensures { result ≡ fit_answer a b }
 {
     if a.outputs != b.inputs {
-        return answer::refused(answer::FIT, 0, 0);
+        return answer::refused(Reason::Fit, 0, 0);
     }
     let whole = glued(a, b);
     if netlist::GATE_LIMIT < whole.gates {
-        return answer::refused(answer::GATES, 0, 0);
+        return answer::refused(Reason::Gates, 0, 0);
     }
-    Answer::Done
+    Ok(())
 }
 
+#[tactic(auto, using(answer::proofs::Rows::stop, answer::proofs::Rows::go, netlist::proofs::Accepted::done_sound), unfolding(crate::specs::Glue::glue_answer))]
 fn judge(first: &[u32], second: &[u32], room: usize) -> Answer
     ensures { result ≡ glue_answer first.now second.now room }
 {
-    let r = netlist::check::check_as(first, 1);
-    let Answer::Done = r else {
-        return r;
-    };
-    let s = netlist::check::check_as(second, 2);
-    let Answer::Done = s else {
-        return s;
-    };
+    netlist::check::check_as(first, 1)?;
+    netlist::check::check_as(second, 2)?;
     let a = counts_of(first);
     let b = counts_of(second);
-    let space = answer::room(room, word_count(glued(a, b)), 3);
-    let Answer::Done = space else {
-        return space;
-    };
+    answer::room(room, word_count(glued(a, b)), 3)?;
     fitting(a, b)
 }
 
 // The first netlist glued to the second.
+#[tactic(auto, using(answer::proofs::Over::kept, answer::proofs::Over::made, crate::proofs::Accepted::done_fit))]
 pub fn glue(first: &[u32], second: &[u32], out: &mut [u32]) -> Answer
     ensures { GluedAs first.now second.now out.old result out.new }
 {
-    let r = judge(first, second, out.len());
-    let Answer::Done = r else {
-        return r;
-    };
+    judge(first, second, out.len())?;
     write(first, second, out);
-    Answer::Done
+    Ok(())
 }

@@ -1,6 +1,6 @@
 -- A key as it is lent: N bits, a byte a bit. docs/RULES.md, "Six instances". Nothing else says how a key is lent.
+use Rattle.answer.specs.Answers.{Answer}
 use Rattle.std.specs.Prelude.{ℕ, List}
-use Rattle.answer.specs.declared.Answer.{Answer}
 use Rattle.answer.specs.Judges.{length_answer}
 use Rattle.answer.specs.Bits.{bits_answer}
 use Rattle.instance.specs.Table.{key_bits}

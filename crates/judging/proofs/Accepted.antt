@@ -1,8 +1,8 @@
--- What gives Done of a cipher call, and what Done tells.
+-- What gives done of a cipher call, and what done tells.
 use Prim.Native.Nat.{ℕ, ◌≤◌}
 use mathlib.Core.Path.{◌≡◌}
 use mathlib.Core.List.{List}
-use Rattle.answer.specs.declared.Answer.TheVariants.{Done}
+use Rattle.std.specs.Prelude.{Ok}
 use Rattle.answer.proofs.Rows.{both, first_done, then_done, one_of, two_of, three_of}
 use Rattle.answer.proofs.Judges.{length_done, room_done, done_length, done_room, bits_done, done_bits}
 use Rattle.instance.specs.Wired.{Wired, Bits}
@@ -13,7 +13,7 @@ use Rattle.judging.specs.Judging.{keystream_answer, encipher_answer}
 
 -- What the rules let a caller lend is accepted, with room for the m bits.
 pub keystream_accepted : (inst m : ℕ) (key idx wh : List ℕ) (n : ℕ) → Wired inst m idx wh → Keyed inst key → m ≤ n
-    → keystream_answer inst m key idx wh n ≡ Done
+    → keystream_answer inst m key idx wh n ≡ Ok tt
 unfolding keystream_answer
 keystream_accepted inst m key idx wh n w k h =
     both (wired_numbers inst m idx wh w)
@@ -23,7 +23,7 @@ keystream_accepted inst m key idx wh n w k h =
 
 -- enciphering and deciphering
 pub encipher_accepted : (inst m : ℕ) (key rec idx wh : List ℕ) (n : ℕ) → Wired inst m idx wh → Keyed inst key → Bits m rec → m ≤ n
-    → encipher_answer inst m key rec idx wh n ≡ Done
+    → encipher_answer inst m key rec idx wh n ≡ Ok tt
 unfolding encipher_answer
 encipher_accepted inst m key rec idx wh n w k r h =
     both (wired_numbers inst m idx wh w)
@@ -32,7 +32,7 @@ encipher_accepted inst m key rec idx wh n w k r h =
     (both (wired_rows inst m idx wh w 3) (done_room 5 n m h))))
 
 -- And nothing else is.
-pub keystream_wired : (inst m : ℕ) (key idx wh : List ℕ) (n : ℕ) → keystream_answer inst m key idx wh n ≡ Done
+pub keystream_wired : (inst m : ℕ) (key idx wh : List ℕ) (n : ℕ) → keystream_answer inst m key idx wh n ≡ Ok tt
     → Wired inst m idx wh × Keyed inst key × (m ≤ n)
 unfolding keystream_answer
 keystream_wired inst m key idx wh n e =
@@ -45,7 +45,7 @@ keystream_wired inst m key idx wh n e =
       room_done 4 n m (three_of _ _ _ e2),
     )
 
-pub encipher_wired : (inst m : ℕ) (key rec idx wh : List ℕ) (n : ℕ) → encipher_answer inst m key rec idx wh n ≡ Done
+pub encipher_wired : (inst m : ℕ) (key rec idx wh : List ℕ) (n : ℕ) → encipher_answer inst m key rec idx wh n ≡ Ok tt
     → Wired inst m idx wh × Keyed inst key × Bits m rec × (m ≤ n)
 unfolding encipher_answer
 encipher_wired inst m key rec idx wh n e =

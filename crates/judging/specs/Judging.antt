@@ -1,7 +1,6 @@
 -- What the cipher calls answer, in the rules' order: 1, 2, 3, 4, 5, 6, 7, 8; then the lower list.
 use Rattle.std.specs.Prelude.{ℕ, List, length}
-use Rattle.answer.specs.declared.Answer.{Answer}
-use Rattle.answer.specs.Answers.{◌▹◌}
+use Rattle.answer.specs.Answers.{Answer, ◌▹◌}
 use Rattle.answer.specs.Judges.{length_answer, room_answer}
 use Rattle.answer.specs.Bits.{bits_answer}
 use Rattle.instance.specs.Judging.{numbers_answer, wiring_lengths, wiring_rows}

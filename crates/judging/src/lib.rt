@@ -1,5 +1,5 @@
 // What a cipher call is lent, judged in the rules' order.
-#![tactic(auto)]
+#![tactic(auto, using(answer::proofs::Rows::stop, answer::proofs::Rows::go), unfolding(crate::specs::Judging::keystream_answer, crate::specs::Judging::encipher_answer, crate::specs::Inner::record_lengths, crate::specs::Inner::result_answer))]
 
 ghost use Rattle.std.specs.Prelude.{◌≡◌};
 ghost use Rattle.answer.specs.Answers.{◌▹◌};
@@ -7,7 +7,7 @@ ghost use Rattle.answer.specs.Bits.{bits_answer};
 ghost use Rattle.instance.specs.Judging.{wiring_lengths};
 ghost use Rattle.instance.specs.Keys.{key_length_answer, key_bits_answer};
 ghost use Rattle.judging.specs.Judging.{keystream_answer, encipher_answer};
-ghost use Rattle.judging.specs.Inner.{record_lengths, lent_answer, result_answer};
+ghost use Rattle.judging.specs.Inner.{record_lengths, result_answer};
 
 use answer::Answer;
 
@@ -22,42 +22,26 @@ pub fn keystream(
 ) -> Answer
     ensures { result ≡ keystream_answer instance m key.now indices.now whitening.now room }
 {
-    let r = instance::numbers(instance, m);
-    let Answer::Done = r else {
-        return r;
-    };
-    let s = key_lengths(instance, m, key.len(), indices.len(), whitening.len());
-    let Answer::Done = s else {
-        return s;
-    };
-    let t = key_bits(instance, key, whitening);
-    let Answer::Done = t else {
-        return t;
-    };
-    let u = instance::wiring_rows(instance, indices, whitening, 2);
-    let Answer::Done = u else {
-        return u;
-    };
+    instance::numbers(instance, m)?;
+    key_lengths(instance, m, key.len(), indices.len(), whitening.len())?;
+    key_bits(instance, key, whitening)?;
+    instance::wiring_rows(instance, indices, whitening, 2)?;
     answer::room(room, m as usize, 4)
 }
 
+// 3 on it.
 fn key_lengths(instance: u32, m: u32, key: usize, indices: usize, whitening: usize) -> Answer
     ensures { result ≡ key_length_answer 1 instance key ▹ wiring_lengths 2 instance m indices whitening }
 {
-    let r = instance::key_length(instance, key, 1);
-    let Answer::Done = r else {
-        return r;
-    };
+    instance::key_length(instance, key, 1)?;
     instance::wiring_lengths(instance, m, indices, whitening, 2)
 }
 
+// 4 on it.
 fn key_bits(instance: u32, key: &[u8], whitening: &[u8]) -> Answer
     ensures { result ≡ key_bits_answer 1 instance key.now ▹ bits_answer 3 whitening.now }
 {
-    let r = instance::key_bits(instance, key, 1);
-    let Answer::Done = r else {
-        return r;
-    };
+    instance::key_bits(instance, key, 1)?;
     answer::bits(whitening, 3)
 }
 
@@ -73,14 +57,17 @@ pub fn encipher(
 ) -> Answer
     ensures { result ≡ encipher_answer instance m key.now «record».now indices.now whitening.now room }
 {
-    let r = lent(instance, m, key, record, indices, whitening);
-    let Answer::Done = r else {
-        return r;
-    };
-    let s = instance::wiring_rows(instance, indices, whitening, 3);
-    let Answer::Done = s else {
-        return s;
-    };
+    instance::numbers(instance, m)?;
+    record_lengths(
+        instance,
+        m,
+        key.len(),
+        record.len(),
+        indices.len(),
+        whitening.len(),
+    )?;
+    record_bits(instance, key, record, whitening)?;
+    instance::wiring_rows(instance, indices, whitening, 3)?;
     result(m, room)
 }
 
@@ -95,10 +82,9 @@ pub fn kreyvium(
 ) -> Answer
     ensures { result ≡ encipher_answer 6 m key.now «record».now indices.now iv.now room }
 {
-    let r = lent(6, m, key, record, indices, iv);
-    let Answer::Done = r else {
-        return r;
-    };
+    instance::numbers(6, m)?;
+    record_lengths(6, m, key.len(), record.len(), indices.len(), iv.len())?;
+    record_bits(6, key, record, iv)?;
     result(m, room)
 }
 
@@ -109,35 +95,7 @@ fn result(m: u32, room: usize) -> Answer
     answer::room(room, m as usize, 5)
 }
 
-// 1 to 4 on what both are lent.
-fn lent(
-    instance: u32,
-    m: u32,
-    key: &[u8],
-    record: &[u8],
-    indices: &[u32],
-    whitening: &[u8],
-) -> Answer
-    ensures { result ≡ lent_answer instance m key.now «record».now indices.now whitening.now }
-{
-    let r = instance::numbers(instance, m);
-    let Answer::Done = r else {
-        return r;
-    };
-    let s = record_lengths(
-        instance,
-        m,
-        key.len(),
-        record.len(),
-        indices.len(),
-        whitening.len(),
-    );
-    let Answer::Done = s else {
-        return s;
-    };
-    record_bits(instance, key, record, whitening)
-}
-
+// 3 on what both are lent.
 fn record_lengths(
     instance: u32,
     m: u32,
@@ -148,27 +106,16 @@ fn record_lengths(
 ) -> Answer
     ensures { result ≡ record_lengths instance m key «record» indices whitening }
 {
-    let r = instance::key_length(instance, key, 1);
-    let Answer::Done = r else {
-        return r;
-    };
-    let s = answer::exact(record, m as usize, 2);
-    let Answer::Done = s else {
-        return s;
-    };
+    instance::key_length(instance, key, 1)?;
+    answer::exact(record, m as usize, 2)?;
     instance::wiring_lengths(instance, m, indices, whitening, 3)
 }
 
+// 4 on it.
 fn record_bits(instance: u32, key: &[u8], record: &[u8], whitening: &[u8]) -> Answer
     ensures { result ≡ key_bits_answer 1 instance key.now ▹ bits_answer 2 «record».now ▹ bits_answer 4 whitening.now }
 {
-    let r = instance::key_bits(instance, key, 1);
-    let Answer::Done = r else {
-        return r;
-    };
-    let s = answer::bits(record, 2);
-    let Answer::Done = s else {
-        return s;
-    };
+    instance::key_bits(instance, key, 1)?;
+    answer::bits(record, 2)?;
     answer::bits(whitening, 4)
 }

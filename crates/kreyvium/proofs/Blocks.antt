@@ -159,9 +159,9 @@ module _ (s : State) where
   rounds-same : (n i : ℕ) → n + i ≡ 63 → Same (rounds n (state_of s)) (early s i)
   unfolding early state_of round_of moved
   rounds-same n i q = record {
-    a = taps (λ r. r.a) t3 (λ r. refl) (state_of s) 93 (length-reg 93 s.s.a (omega arith)) n i q;
-    b = taps (λ r. r.b) t1 (λ r. refl) (state_of s) 84 (length-reg 84 s.s.b (omega arith)) n i q;
-    c = taps (λ r. r.c) t2 (λ r. refl) (state_of s) 111 (length-reg 111 s.s.c (omega arith)) n i q;
+    a = taps (λ r. r.a) t3 (λ r. refl) (state_of s) 93 (length-reg 93 s.a (omega arith)) n i q;
+    b = taps (λ r. r.b) t1 (λ r. refl) (state_of s) 84 (length-reg 84 s.b (omega arith)) n i q;
+    c = taps (λ r. r.c) t2 (λ r. refl) (state_of s) 111 (length-reg 111 s.c (omega arith)) n i q;
     k = taps (λ r. r.k) (k0 0) (λ r. refl) (state_of s) 128 (length-reg 128 s.k (omega arith)) n i q;
     v = taps (λ r. r.v) (v0 0) (λ r. refl) (state_of s) 128 (length-reg 128 s.v (omega arith)) n i q;
   }
@@ -176,9 +176,9 @@ module _ (s : State) (e : Entry) where
   -- the registers 64 - i rounds on
   unfoldable pub at : ℕ → Registers ℕ
   at i = record {
-    a = got i 93 e.a s.s.a;
-    b = got i 84 e.b s.s.b;
-    c = got i 111 e.c s.s.c;
+    a = got i 93 e.a s.a;
+    b = got i 84 e.b s.b;
+    c = got i 111 e.c s.c;
     k = got i 128 s.k.hi s.k;
     v = got i 128 s.v.hi s.v;
   }
@@ -202,9 +202,9 @@ module _ (s : State) (e : Entry) where
         rounds_last n (state_of s)
         ∙ ap round_of g
         ∙ registers_eq
-        (got-more i 93 e.a _ s.s.a h (omega arith) (same_three _ _ same ∙ sym (r.a i h)))
-        (got-more i 84 e.b _ s.s.b h (omega arith) (same-one _ _ same ∙ sym (r.b i h)))
-        (got-more i 111 e.c _ s.s.c h (omega arith) (same_two _ _ same ∙ sym (r.c i h)))
+        (got-more i 93 e.a _ s.a h (omega arith) (same_three _ _ same ∙ sym (r.a i h)))
+        (got-more i 84 e.b _ s.b h (omega arith) (same-one _ _ same ∙ sym (r.b i h)))
+        (got-more i 111 e.c _ s.c h (omega arith) (same_two _ _ same ∙ sym (r.c i h)))
         (got-more i 128 s.k.hi _ s.k h (omega arith) (same.k 127 (omega arith) (omega arith) ∙ early_key s i h))
         (got-more i 128 s.v.hi _ s.v h (omega arith) (same.v 127 (omega arith) (omega arith) ∙ early-iv s i h))
 
@@ -214,7 +214,9 @@ module _ (s : State) (e : Entry) where
 
     -- 64 rounds
     pub block_next : state_of (record {
-      s = record { a = record { lo = e.a; hi = s.s.a.lo }; b = record { lo = e.b; hi = s.s.b.lo }; c = record { lo = e.c; hi = s.s.c.lo } };
+      a = record { lo = e.a; hi = s.a.lo };
+      b = record { lo = e.b; hi = s.b.lo };
+      c = record { lo = e.c; hi = s.c.lo };
       k = record { lo = s.k.hi; hi = s.k.lo };
       v = record { lo = s.v.hi; hi = s.v.lo };
     }) ≡ rounds 64 (state_of s)
@@ -223,26 +225,26 @@ module _ (s : State) (e : Entry) where
         sym
         (at-rounds 64 0 refl
         ∙ registers_eq
-        (got-all 93 e.a s.s.a (omega arith))
-        (got-all 84 e.b s.s.b (omega arith))
-        (got-all 111 e.c s.s.c (omega arith))
+        (got-all 93 e.a s.a (omega arith))
+        (got-all 84 e.b s.b (omega arith))
+        (got-all 111 e.c s.c (omega arith))
         (got-all 128 s.k.hi s.k (omega arith))
         (got-all 128 s.v.hi s.v (omega arith)))
 
     -- one round: of each word that enters, the bit at place 63
     pub one_round : ◌≡◌ {A = Registers ℕ} (record {
-      a = push (bit e.a 63) (reg 93 s.s.a);
-      b = push (bit e.b 63) (reg 84 s.s.b);
-      c = push (bit e.c 63) (reg 111 s.s.c);
+      a = push (bit e.a 63) (reg 93 s.a);
+      b = push (bit e.b 63) (reg 84 s.b);
+      c = push (bit e.c 63) (reg 111 s.c);
       k = push (bit s.k.hi 63) (reg 128 s.k);
       v = push (bit s.v.hi 63) (reg 128 s.v);
     }) (round_of (state_of s))
     unfolding at rounds
     one_round =
         registers_eq
-        (got-first 93 e.a s.s.a (omega arith))
-        (got-first 84 e.b s.s.b (omega arith))
-        (got-first 111 e.c s.s.c (omega arith))
+        (got-first 93 e.a s.a (omega arith))
+        (got-first 84 e.b s.b (omega arith))
+        (got-first 111 e.c s.c (omega arith))
         (got-first 128 s.k.hi s.k (omega arith))
         (got-first 128 s.v.hi s.v (omega arith))
         ∙ sym (at-rounds 1 63 refl)

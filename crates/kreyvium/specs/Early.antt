@@ -15,9 +15,9 @@ later i r = replicate 63 0 ++ drop i r
 
 unfoldable pub early : State → ℕ → Registers ℕ
 early s i = record {
-  a = later i (reg 93 s.s.a);
-  b = later i (reg 84 s.s.b);
-  c = later i (reg 111 s.s.c);
+  a = later i (reg 93 s.a);
+  b = later i (reg 84 s.b);
+  c = later i (reg 111 s.c);
   k = later i (reg 128 s.k);
   v = later i (reg 128 s.v);
 }

@@ -30,9 +30,9 @@ reg n w = take n (bits 64 w.lo ++ bits 64 w.hi)
 -- the registers that a state stands for
 unfoldable pub state_of : State → Registers ℕ
 state_of s = record {
-  a = reg 93 s.s.a;
-  b = reg 84 s.s.b;
-  c = reg 111 s.s.c;
+  a = reg 93 s.a;
+  b = reg 84 s.b;
+  c = reg 111 s.c;
   k = reg 128 s.k;
   v = reg 128 s.v;
 }

@@ -5,10 +5,10 @@
 // its register or above, so what 64 rounds read is in the registers before the first of them.
 #![tactic(auto)]
 
-ghost use Rattle.std.specs.Prelude.{◌≡◌, ◌++◌, ℕ, ◌+◌, ◌%◌, ◌<◌, ◌≤◌, take, drop, get_or};
-ghost use Rattle.kreyvium.specs.Kreyvium.{loaded, s_a, s_b, s_c, out_of, t1, t2, t3, push, round_of, rounds, stream, stream_of};
+ghost use Rattle.std.specs.Prelude.{◌≡◌, ◌++◌, ℕ, ◌+◌, ◌-◌, ◌%◌, ◌<◌, ◌≤◌, take, drop, get_or};
+ghost use Rattle.kreyvium.specs.Kreyvium.{loaded, out_of, t1, t2, t3, push, round_of, rounds, stream, stream_of};
 ghost use Rattle.kreyvium.specs.Words.{bits, bit, tops, reg, state_of};
-ghost use Rattle.kreyvium.specs.Early.{early, Right};
+ghost use Rattle.kreyvium.specs.Early.{early, later, Right};
 
 // A register of up to 128 places: the first 64 in lo and the others in hi, each from the low end up.
 // A shorter register leaves bits above its length. They are never cleared: every tap stands below
@@ -19,22 +19,22 @@ struct Words {
     hi: u64,
 }
 
-// s1..s93, s94..s177 and s178..s288.
+// The registers s1..s93, s94..s177 and s178..s288, and K* and IV*, whose first place is bit 127 and whose last is bit 0.
+// The fields are private: a caller learns of a state what the promises say of the registers it stands for, and nothing
+// of its words.
 #[derive(Clone, Copy)]
-struct Shift {
+pub struct State {
     a: Words,
     b: Words,
     c: Words,
-}
-
-// The three registers with K* and IV*, whose first place is bit 127 and whose last is bit 0. The fields are private: a
-// caller learns of a state what the promises say of the registers it stands for, and nothing of its words.
-#[derive(Clone, Copy)]
-pub struct State {
-    s: Shift,
     k: Words,
     v: Words,
 }
+
+// So many stand before b's first and before c's first, s94 and s178.
+const B: u64 = 93;
+
+const C: u64 = 177;
 
 // What 64 rounds bring into a, b and c: the first round's bit at place 63.
 #[derive(Clone, Copy)]
@@ -44,12 +44,12 @@ struct Entry {
     c: u64,
 }
 
-// c is loaded with IV84..IV127 at places 0 to 43, then 66 ones, then a zero at place 110, s288.
-// This is 2^64 - 2^44: the 20 ones of the first word, at places 44 to 63.
-const ONES_FROM_44: u64 = 18446726481523507200;
+// c is loaded with IV84..IV127 at places 0 to 43, then 66 ones, then a zero at place 110, s288. These are the 20 ones of
+// the first word, at places 44 to 63.
+const ONES_FROM_44: u64 = (1 << 20) - 1 << 44;
 
-// 2^46 - 1: the other 46 ones, at the low end of the second word. The zero is the bit above them.
-const ONES_BELOW_46: u64 = 70368744177663;
+// The other 46 ones, at the low end of the second word. The zero is the bit above them.
+const ONES_BELOW_46: u64 = (1 << 46) - 1;
 
 impl Words {
     // The 64 bits from place o on.
@@ -69,20 +69,44 @@ impl Words {
         ((self.lo >> o) ^ (self.lo >> p)) ^ ((self.hi << (64 - o)) ^ (self.hi << (64 - p)))
     }
 
+    // What stands at place n, counted from 1, in each of the next 64 rounds, for a tap. The coming round finds it at
+    // place n, and the last of the 64 what stands 63 places before it now: one window holds them all.
+    fn tap(self, n: u64) -> u64
+        requires { (64 < n) × (n < 128) }
+        ensures { (len i : ℕ) → n ≤ len → len ≤ 128 → i < 64 → bit result i ≡ get_or (later i (reg len self)) (n - 1) 0 }
+    {
+        self.window(n - 64)
+    }
+
+    // Two taps added.
+    fn taps(self, n: u64, m: u64) -> u64
+        requires { (64 < n) × (n < 128) × (64 < m) × (m < 128) }
+        ensures { (len i : ℕ) → n ≤ len → m ≤ len → len ≤ 128 → i < 64 → bit result i ≡ (get_or (later i (reg len self)) (n - 1) 0 + get_or (later i (reg len self)) (m - 1) 0) % 2 }
+    {
+        self.windows(n - 64, m - 64)
+    }
+
+    // 64 places up: a whole word enters, and the word that stood first moves up.
+    fn risen(self, x: u64) -> Words
+        ensures { result ≡ record { lo = x; hi = self.lo } }
+    {
+        Words { lo: x, hi: self.lo }
+    }
+
     // Each bit moves one place up, and the bit at place 63 of x enters.
     fn entered(self, x: u64) -> Words
         ensures { (n : ℕ) → n ≤ 128 → reg n result ≡ push (bit x 63) (reg n self) }
     {
-        let low = self.lo;
-        let w = Words { lo: x, hi: low };
-        let lo = w.window(63);
-        let hi = self.window(63);
-        Words { lo: lo, hi: hi }
+        Words {
+            lo: self.risen(x).window(63),
+            hi: self.window(63),
+        }
     }
 }
 
 impl State {
-    // Key and IV loaded, each given as two words with its first bit lowest.
+    // Key and IV loaded, each given as two words with its first bit lowest. They stay four numbers here, in `with_stars`
+    // and in `stream64`: these are public calls, which take any words.
     pub fn load(k0: u64, k1: u64, v0: u64, v1: u64) -> State
         ensures { state_of result ≡ loaded 0 1 (bits 64 k0 ++ bits 64 k1) (bits 64 v0 ++ bits 64 v1) }
     {
@@ -92,8 +116,13 @@ impl State {
             lo: ONES_FROM_44 + (v1 >> 20),
             hi: ONES_BELOW_46,
         };
-        let s = Shift { a: k, b: v, c: c };
-        State { s: s, k: k, v: v }
+        State {
+            a: k,
+            b: v,
+            c,
+            k,
+            v,
+        }
     }
 
     // The same three registers, with K* and IV* from another key and IV. The rules load both from the same; a library
@@ -101,69 +130,11 @@ impl State {
     pub fn with_stars(self, k0: u64, k1: u64, v0: u64, v1: u64) -> State
         ensures { state_of result ≡ record { a = (state_of self).a; b = (state_of self).b; c = (state_of self).c; k = bits 64 k0 ++ bits 64 k1; v = bits 64 v0 ++ bits 64 v1 } }
     {
-        let s = self.s;
-        let k = Words { lo: k0, hi: k1 };
-        let v = Words { lo: v0, hi: v1 };
-        State { s: s, k: k, v: v }
-    }
-
-    // s_n in each of the next 64 rounds, for a tap n of a. The coming round finds it at place n - 1,
-    // and the last of the 64 what stands at place n - 64 now: one window holds them all.
-    fn tap_a(self, n: u64) -> u64
-        requires { (64 < n) × (n ≤ 93) }
-        ensures { (i : ℕ) → i < 64 → bit result i ≡ s_a 0 (early self i) n }
-    {
-        let s = self.s;
-        let a = s.a;
-        a.window(n - 64)
-    }
-
-    // For a tap of b, where s94 is at place 0.
-    fn tap_b(self, n: u64) -> u64
-        requires { (157 < n) × (n ≤ 177) }
-        ensures { (i : ℕ) → i < 64 → bit result i ≡ s_b 0 (early self i) n }
-    {
-        let s = self.s;
-        let b = s.b;
-        b.window(n - 157)
-    }
-
-    // For a tap of c, where s178 is at place 0.
-    fn tap_c(self, n: u64) -> u64
-        requires { (241 < n) × (n ≤ 288) }
-        ensures { (i : ℕ) → i < 64 → bit result i ≡ s_c 0 (early self i) n }
-    {
-        let s = self.s;
-        let c = s.c;
-        c.window(n - 241)
-    }
-
-    // Two taps of a register added.
-    fn taps_a(self, n: u64, m: u64) -> u64
-        requires { (64 < n) × (n ≤ 93) × (64 < m) × (m ≤ 93) }
-        ensures { (i : ℕ) → i < 64 → bit result i ≡ (s_a 0 (early self i) n + s_a 0 (early self i) m) % 2 }
-    {
-        let s = self.s;
-        let a = s.a;
-        a.windows(n - 64, m - 64)
-    }
-
-    fn taps_b(self, n: u64, m: u64) -> u64
-        requires { (157 < n) × (n ≤ 177) × (157 < m) × (m ≤ 177) }
-        ensures { (i : ℕ) → i < 64 → bit result i ≡ (s_b 0 (early self i) n + s_b 0 (early self i) m) % 2 }
-    {
-        let s = self.s;
-        let b = s.b;
-        b.windows(n - 157, m - 157)
-    }
-
-    fn taps_c(self, n: u64, m: u64) -> u64
-        requires { (241 < n) × (n ≤ 288) × (241 < m) × (m ≤ 288) }
-        ensures { (i : ℕ) → i < 64 → bit result i ≡ (s_c 0 (early self i) n + s_c 0 (early self i) m) % 2 }
-    {
-        let s = self.s;
-        let c = s.c;
-        c.windows(n - 241, m - 241)
+        State {
+            k: Words { lo: k0, hi: k1 },
+            v: Words { lo: v0, hi: v1 },
+            ..self
+        }
     }
 
     // The output bits of the next 64 rounds, t1 + t2 + t3 in each: the first at place 63 and the last at place 0. K*0 will
@@ -171,48 +142,53 @@ impl State {
     pub fn outputs64(self) -> u64
         ensures { (n : ℕ) → n ≤ 64 → tops n result ≡ stream n (state_of self) }
     {
-        let k = self.k;
-        self.taps_a(66, 93) ^ self.taps_b(162, 177) ^ self.taps_c(243, 288) ^ k.hi
+        self.a.taps(66, 93)
+            ^ self.b.taps(162 - B, 177 - B)
+            ^ self.c.taps(243 - C, 288 - C)
+            ^ self.k.hi
     }
 
     // The output bit of the coming round.
     pub fn output(self) -> u8
         ensures { result ≡ out_of (state_of self) }
     {
-        let z = self.outputs64();
-        (z >> 63) as u8
+        (self.outputs64() >> 63) as u8
     }
 
     // t1 with what it gains; IV*0 is v.hi likewise.
     fn word_one(self) -> u64
         ensures { (i : ℕ) → i < 64 → bit result i ≡ t1 (early self i) }
     {
-        let v = self.v;
-        self.taps_a(66, 93) ^ (self.tap_a(91) & self.tap_a(92)) ^ self.tap_b(171) ^ v.hi
+        self.a.taps(66, 93) ^ (self.a.tap(91) & self.a.tap(92)) ^ self.b.tap(171 - B) ^ self.v.hi
     }
 
     // t2 with what it gains.
     fn word_two(self) -> u64
         ensures { (i : ℕ) → i < 64 → bit result i ≡ t2 (early self i) }
     {
-        self.taps_b(162, 177) ^ (self.tap_b(175) & self.tap_b(176)) ^ self.tap_c(264)
+        self.b.taps(162 - B, 177 - B)
+            ^ (self.b.tap(175 - B) & self.b.tap(176 - B))
+            ^ self.c.tap(264 - C)
     }
 
     // t3 with what it gains.
     fn word_three(self) -> u64
         ensures { (i : ℕ) → i < 64 → bit result i ≡ t3 (early self i) }
     {
-        let k = self.k;
-        self.taps_c(243, 288) ^ k.hi ^ (self.tap_c(286) & self.tap_c(287)) ^ self.tap_a(69)
+        self.c.taps(243 - C, 288 - C)
+            ^ self.k.hi
+            ^ (self.c.tap(286 - C) & self.c.tap(287 - C))
+            ^ self.a.tap(69)
     }
 
     fn entry(self) -> Entry
         ensures { Right self result }
     {
-        let a = self.word_three();
-        let b = self.word_one();
-        let c = self.word_two();
-        Entry { a: a, b: b, c: c }
+        Entry {
+            a: self.word_three(),
+            b: self.word_one(),
+            c: self.word_two(),
+        }
     }
 
     // One round: of the 64 bits that would enter each register, the first does.
@@ -220,55 +196,26 @@ impl State {
         ensures { state_of result ≡ round_of (state_of self) }
     {
         let e = self.entry();
-        let s = self.s;
-        let a = s.a;
-        let b = s.b;
-        let c = s.c;
-        let k = self.k;
-        let v = self.v;
-        let a1 = a.entered(e.a);
-        let b1 = b.entered(e.b);
-        let c1 = c.entered(e.c);
-        let k1 = k.entered(k.hi);
-        let v1 = v.entered(v.hi);
-        let s1 = Shift {
-            a: a1,
-            b: b1,
-            c: c1,
-        };
         State {
-            s: s1,
-            k: k1,
-            v: v1,
+            a: self.a.entered(e.a),
+            b: self.b.entered(e.b),
+            c: self.c.entered(e.c),
+            k: self.k.entered(self.k.hi),
+            v: self.v.entered(self.v.hi),
         }
     }
 
-    // 64 rounds at once: a whole word enters each register, and the word that stood first moves up.
-    // K* and IV* turn by half their length, so their words change places.
+    // 64 rounds at once. K* and IV* turn by half their length, so their words change places.
     pub fn rounds64(self) -> State
         ensures { state_of result ≡ rounds 64 (state_of self) }
     {
         let e = self.entry();
-        let s = self.s;
-        let a = s.a;
-        let b = s.b;
-        let c = s.c;
-        let k = self.k;
-        let v = self.v;
-        let a64 = Words { lo: e.a, hi: a.lo };
-        let b64 = Words { lo: e.b, hi: b.lo };
-        let c64 = Words { lo: e.c, hi: c.lo };
-        let k64 = Words { lo: k.hi, hi: k.lo };
-        let v64 = Words { lo: v.hi, hi: v.lo };
-        let s64 = Shift {
-            a: a64,
-            b: b64,
-            c: c64,
-        };
         State {
-            s: s64,
-            k: k64,
-            v: v64,
+            a: self.a.risen(e.a),
+            b: self.b.risen(e.b),
+            c: self.c.risen(e.c),
+            k: self.k.risen(self.k.hi),
+            v: self.v.risen(self.v.hi),
         }
     }
 
@@ -278,11 +225,9 @@ impl State {
         ensures { state_of result ≡ rounds 1152 (state_of self) }
     {
         let mut s = self;
-        let mut i: usize = 0;
-        while i < 9 {
+        for _ in 0..9u8 {
             let t = s.rounds64();
             s = t.rounds64();
-            i += 1;
         }
         s
     }
@@ -292,7 +237,5 @@ impl State {
 pub fn stream64(k0: u64, k1: u64, v0: u64, v1: u64) -> u64
     ensures { (n : ℕ) → n ≤ 64 → tops n result ≡ stream_of (bits 64 k0 ++ bits 64 k1) (bits 64 v0 ++ bits 64 v1) n }
 {
-    let s = State::load(k0, k1, v0, v1);
-    let t = s.warmed();
-    t.outputs64()
+    State::load(k0, k1, v0, v1).warmed().outputs64()
 }

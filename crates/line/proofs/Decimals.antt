@@ -1,11 +1,13 @@
 -- Laws of decimal numbers.
-use Prim.Native.Nat.{ℕ, zero, suc, ◌+◌, ◌*◌, ◌/◌, ◌%◌, ◌≤◌, ◌<◌}
+use Prim.Native.Nat.{ℕ, zero, suc, ◌+◌, ◌/◌, ◌%◌, ◌^◌, ◌≤◌, ◌<◌}
 use mathlib.Core.Path.{◌≡◌, refl, sym, ap, ◌∙◌}
 use mathlib.Core.List.{List, [], ◌∷◌, ◌++◌}
 use native.Mathlib.Decide.{dec_le}
 use native.Mathlib.Omega.{arith}
 use borrow.Author.Tests.{lt-ltb, le-ltb}
-use lib.ListN.{length, length-append}
+use lib.ListN.{length}
+use Rattle.std.specs.Fmt as fmt
+use Rattle.std.proofs.lemmas.Fmt.{decimal_by_steps, length-decimal-le}
 use Rattle.line.specs.Decimal.{decimal_digits, decimal}
 
 digits_low : (k n : ℕ) → n < 10 → decimal_digits k n ≡ (48 + n) ∷ []
@@ -50,25 +52,18 @@ decimal_three n h l =
     decimal_high n (omega arith)
     ∙ ap (λ (t : List ℕ). t ++ (48 + n % 10) ∷ []) (decimal_two (n / 10) (omega arith) (omega arith))
 
--- how many digits there are at most
-one_more : (k n : ℕ) → length (decimal (n / 10)) ≤ k → 10 ≤ n → length (decimal n) ≤ k + 1
-one_more k n h l = omega (arith, ap length (decimal_high n l), length-append (decimal (n / 10)) ((48 + n % 10) ∷ []))
+-- it is what std prints of a number, which says how many digits there are at most
+pub decimal_std : (n : ℕ) → n < 2 ^ 64 → decimal n ≡ fmt.decimal n
+decimal_std n h =
+    decimal_by_steps (λ (n : ℕ) (ds : List ℕ). decimal n ≡ ds) decimal_low
+    (λ (n : ℕ) (ds : List ℕ) l e. decimal_high n l ∙ ap (λ (t : List ℕ). t ++ (48 + n % 10) ∷ []) e)
+    n h
 
-longer : (k b n : ℕ) → ((m : ℕ) → m < b → length (decimal m) ≤ k) → n < 10 * b → 1 ≤ k → length (decimal n) ≤ k + 1
-longer k b n f h l =
-    elim (dec_le 10 n) [
-      | yes q ↦ one_more k n (f (n / 10) (omega arith)) q
-      | no q ↦ omega (arith, ap length (decimal_low n (omega arith)))
-    ]
-
-decimal_1 : (n : ℕ) → n < 10 → length (decimal n) ≤ 1
-decimal_1 n h = omega (arith, ap length (decimal_low n h))
-
-decimal_2 : (n : ℕ) → n < 100 → length (decimal n) ≤ 2
-decimal_2 n h = longer 1 10 n decimal_1 h (omega arith)
+decimal_most : (k n : ℕ) → 0 < k → n < 10 ^ k → n < 2 ^ 64 → length (decimal n) ≤ k
+decimal_most k n h l m = rw (decimal_std n m) (length-decimal-le k n h l m)
 
 pub decimal_3 : (n : ℕ) → n < 1000 → length (decimal n) ≤ 3
-decimal_3 n h = longer 2 100 n decimal_2 h (omega arith)
+decimal_3 n h = decimal_most 3 n (omega arith) h (omega arith)
 
 pub decimal_4 : (n : ℕ) → n < 10000 → length (decimal n) ≤ 4
-decimal_4 n h = longer 3 1000 n decimal_3 h (omega arith)
+decimal_4 n h = decimal_most 4 n (omega arith) h (omega arith)

@@ -1,103 +1,87 @@
 // The line "d n" that the printing program reads: docs/RULES.md, "The printing program".
 #![tactic(auto)]
 
-ghost use Rattle.std.specs.Prelude.{◌≡◌, ◌-◌, ◌≤◌};
-ghost use Rattle.line.specs.Asked.{is_digit, number_at, ended_by, asked_of};
+ghost use Rattle.std.specs.Prelude.{◌≡◌, ◌≤◌, Some};
+ghost use Rattle.line.specs.Asked.{digit_at, number_at, ended_by, asked_of};
 
-// A line "d n", or anything else.
+// What a line "d n" asks for.
+#[derive(Clone, Copy, Debug, PartialEq, Eq)]
+pub struct Line {
+    pub d: u32,
+    pub n: u32,
+}
+
+// A number and the place past it.
 #[derive(Clone, Copy)]
-pub enum Asked {
-    Line { d: u32, n: u32 },
-    Nothing,
+struct Number {
+    value: u32,
+    past: usize,
 }
 
-// A number and the place past it, or none.
-#[derive(Clone, Copy)]
-enum Number {
-    Read { value: u32, past: usize },
-    Missing,
-}
-
-fn is_digit(byte: u8) -> bool
-    ensures { result ≡ is_digit byte }
+// The value of the digit at a place, none where no digit stands there.
+#[tactic(auto, unfolding(crate::specs::Asked::digit_at))]
+fn digit(s: &[u8], at: usize) -> Option<u32>
+    ensures { result ≡ digit_at s.now at }
 {
-    if byte < b'0' {
-        return false;
+    let byte = answer::get_or(s, at, 0);
+    if byte.is_ascii_digit() {
+        return Some(u32::from(byte - b'0'));
     }
-    byte <= b'9'
-}
-
-// A digit's value.
-fn digit(byte: u8) -> u32
-    ensures { result ≡ byte - 48 }
-{
-    if byte < b'0' {
-        return 0;
-    }
-    (byte - b'0') as u32
+    None
 }
 
 // The number of 1 to 3 digits at a place. A first digit '0' is the whole number.
-fn read_number(s: &[u8], at: usize) -> Number
+#[tactic(auto, using(crate::proofs::Reading::digit_byte), unfolding(crate::specs::Asked::number_of, crate::specs::Asked::number_at))]
+fn read_number(s: &[u8], at: usize) -> Option<Number>
     requires { at ≤ 4 }
     ensures { result ≡ number_at s.now at }
 {
-    let a = answer::byte_at(s, at);
-    if !is_digit(a) {
-        return Number::Missing;
+    let a = digit(s, at)?;
+    let one = Number {
+        value: a,
+        past: at + 1,
+    };
+    if a == 0 {
+        return Some(one);
     }
-    if a == b'0' {
-        return Number::Read {
-            value: 0,
-            past: at + 1,
-        };
-    }
-    let b = answer::byte_at(s, at + 1);
-    if !is_digit(b) {
-        return Number::Read {
-            value: digit(a),
-            past: at + 1,
-        };
-    }
-    let c = answer::byte_at(s, at + 2);
-    if !is_digit(c) {
-        return Number::Read {
-            value: digit(a) * 10 + digit(b),
+    let Some(b) = digit(s, at + 1) else {
+        return Some(one);
+    };
+    let Some(c) = digit(s, at + 2) else {
+        return Some(Number {
+            value: a * 10 + b,
             past: at + 2,
-        };
-    }
-    Number::Read {
-        value: digit(a) * 100 + digit(b) * 10 + digit(c),
+        });
+    };
+    Some(Number {
+        value: a * 100 + b * 10 + c,
         past: at + 3,
-    }
+    })
 }
 
 // The line of d and a second number: a newline follows it, and nothing after that.
-fn ended(input: &[u8], d: u32, second: Number) -> Asked
-    ensures { result ≡ ended_by input.now d second }
+#[tactic(auto, unfolding(crate::specs::Asked::ended_by))]
+fn ended(input: &[u8], d: u32, second: Number) -> Option<Line>
+    ensures { result ≡ ended_by input.now d (Some second) }
 {
-    let Number::Read { value, past } = second else {
-        return Asked::Nothing;
-    };
-    if answer::byte_at(input, past) != b'\n' {
-        return Asked::Nothing;
+    if answer::get_or(input, second.past, 0) != b'\n' {
+        return None;
     }
-    if input.len() == past + 1 {
-        return Asked::Line { d: d, n: value };
+    if input.len() == second.past + 1 {
+        return Some(Line { d, n: second.value });
     }
-    Asked::Nothing
+    None
 }
 
 // What a whole input asks.
-pub fn parse(input: &[u8]) -> Asked
+#[tactic(auto, using(crate::proofs::Reading::number_past), unfolding(crate::specs::Asked::ended_by, crate::specs::Asked::followed, crate::specs::Asked::asked_of))]
+pub fn parse(input: &[u8]) -> Option<Line>
     ensures { result ≡ asked_of input.now }
 {
-    let first = read_number(input, 0);
-    let Number::Read { value, past } = first else {
-        return Asked::Nothing;
-    };
-    if answer::byte_at(input, past) != b' ' {
-        return Asked::Nothing;
+    let first = read_number(input, 0)?;
+    if answer::get_or(input, first.past, 0) != b' ' {
+        return None;
     }
-    ended(input, value, read_number(input, past + 1))
+    let second = read_number(input, first.past + 1)?;
+    ended(input, first.value, second)
 }

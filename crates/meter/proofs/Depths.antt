@@ -4,8 +4,8 @@ use mathlib.Core.Path.{◌≡◌, refl, sym, ap, subst, ◌∙◌}
 use mathlib.Core.List.{List, [], ◌∷◌, ◌++◌, map, append_assoc}
 use native.Mathlib.Omega.{arith}
 use native.Mathlib.Numerals.{add-one}
-use lib.ListN.{length, get_or, set, take, drop, replicate, length-replicate, replicate-append-replicate, length-drop, take-append-drop}
-use lib.Seq.{drop_at, take-suc, take-length, take-append_seam, take-take, take_all, get_or-drop}
+use lib.ListN.{length, get_or, set, take, drop, replicate, length-replicate, replicate-append-replicate, take-append-drop}
+use lib.Seq.{drop_at, take-suc, take-length, take-append_seam, take-take, get_or-drop}
 use Rattle.answer.specs.Fronts.{over}
 use Rattle.answer.proofs.Over.{over_next, over-at, over-over, take-over}
 use Rattle.netlist.specs.declared.gate.Gate.{Gate}
@@ -145,16 +145,28 @@ kind_low (Xor x y) k a b c e = let h : k ≡ 3 = cc in omega arith
 kind_low (And x y) k a b c e = let h : k ≡ 4 = cc in omega arith
 kind_low (Mux x y z) k a b c e = let h : k ≡ 5 = cc in omega arith
 
+-- no operand word is past the gate's own wire
+module _ {net : List ℕ} {i n : ℕ} {old : List ℕ} (s : DepthsLent net i n old) (g : ℕ) (less : g < n) where
+  operands : (get_or net (gate_place g + 1) 0 ≤ i + g) × (get_or net (gate_place g + 2) 0 ≤ i + g) × (get_or net (gate_place g + 3) 0 ≤ i + g)
+  operands =
+      let there : g < gates_of net = omega (arith, s.gates) in
+      rw s.inputs (operands_low _ _ _ _ _ (s.sound.uses g there) (s.sound.whole g there))
+
+  pub first_low : get_or net (gate_place g + 1) 0 ≤ i + g
+  first_low = operands.0
+
+  pub second_low : get_or net (gate_place g + 2) 0 ≤ i + g
+  second_low = operands.1
+
+  pub third_low : get_or net (gate_place g + 3) 0 ≤ i + g
+  third_low = operands.2
+
 module _ {net : List ℕ} {i n : ℕ} {old : List ℕ} (s : DepthsLent net i n old) (z : old ≡ over (replicate (i + n) 0) old) (g : ℕ) (less : g < n) {out : List ℕ} (e : out ≡ over (depths_to net g) old) where
   front_length : length (depths_to net g) ≡ i + g
   front_length = omega (arith, depths-length net g, s.inputs)
 
   there : g < gates_of net
   there = omega (arith, s.gates)
-
-  -- no operand word is past the gate's own wire
-  pub operands : (get_or net (gate_place g + 1) 0 ≤ i + g) × (get_or net (gate_place g + 2) 0 ≤ i + g) × (get_or net (gate_place g + 3) 0 ≤ i + g)
-  operands = rw s.inputs (operands_low _ _ _ _ _ (s.sound.uses g there) (s.sound.whole g there))
 
   pub kind : get_or net (gate_place g) 0 ≤ 5
   kind = kind_low (gate_at net (gate_place g)) _ _ _ _ (s.sound.whole g there)
@@ -194,20 +206,14 @@ max_zeros : (n : ℕ) → max_of (replicate n 0) ≡ 0
 max_zeros zero = refl
 max_zeros (suc n) = omega (arith, max_zeros n)
 
--- For the loops that look for it: one more, and the end.
+-- For the loops that look for it: one more.
 pub max-more : (l : List ℕ) (i : ℕ) {t r : ℕ} → i < length l → t ≡ max_of (take i l) → r ≡ max t (get_or l i 0) → r ≡ max_of (take (i + 1) l)
 max-more l i h e d =
     rw (add-one i, take-suc l i 0 h) (omega (arith, max-append (take i l) (get_or l i 0 ∷ [])))
 
--- of what the wires at words s, s + 1, .. carry
-module _ (f : ℕ → ℕ) (l : List ℕ) (s o : ℕ) {t : ℕ} (e : t ≡ max_of (map f (take o (drop s l)))) where
-  pub outs_more : {r : ℕ} → s + o < length l → r ≡ max t (f (get_or l (s + o) 0)) → r ≡ max_of (map f (take (o + 1) (drop s l)))
-  outs_more h d =
-      rw (add-one o, take-suc (drop s l) o 0 (omega (arith, length-drop s l)), map-append f (take o (drop s l)), get_or-drop s l o 0)
-      (omega (arith, max-append (map f (take o (drop s l))) (f (get_or l (s + o) 0) ∷ [])))
-
-  pub outs_all : length l ≤ s + o → t ≡ max_of (map f (drop s l))
-  outs_all h = e ∙ ap (λ (k : List ℕ). max_of (map f k)) (take_all o (drop s l) (omega (arith, length-drop s l)))
+pub outs_more : (f : ℕ → ℕ) (l : List ℕ) (o : ℕ) {t r : ℕ} → o < length l → t ≡ max_of (map f (take o l)) → r ≡ max t (f (get_or l o 0)) → r ≡ max_of (map f (take (o + 1) l))
+outs_more f l o h e d =
+    rw (add-one o, take-suc l o 0 h, map-append f (take o l)) (omega (arith, max-append (map f (take o l)) (f (get_or l o 0) ∷ [])))
 
 run-front : {X : Type 0} (A : Alg X) (v : List X) (gs : List Gate) → take (length v) (run A v gs) ≡ v
 run-front A v [] = take-length v

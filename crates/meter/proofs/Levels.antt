@@ -11,15 +11,13 @@ use lib.ListN.{length, get_or, set, replicate, length-set, length-replicate, get
 use lib.Seq.{ext_get_or, get_or-set_same, get_or-set_other, get_or-append_seam}
 use borrow.Author.Tests.{eq-eqb, ne_eqb, lt-ltb, le-ltb}
 use Rattle.answer.specs.Choose.{choose}
-use Rattle.answer.specs.Fronts.{over}
-use Rattle.answer.proofs.Over.{over_none, over-get_or, over-set}
+use Rattle.netlist.specs.Words.{inputs_of, gates_of}
 use Rattle.netlist.proofs.Sim.{length_snoc, split, split_suc}
 use Rattle.netlist.proofs.Glued.{map-append}
 use Rattle.meter.specs.declared.Level.{Level}
 use Rattle.meter.specs.declared.Spot.{Spot}
 use Rattle.meter.specs.Levels.{spot_of, sum_of, level_at, levels_below, total}
 use Rattle.meter.specs.InnerLevels.{no_gates, bump, with_spot, tallied, gained, Slight, Countable, Tallies, Clears}
-use Rattle.meter.proofs.Fills.{fill_length, fill_at}
 
 -- ---- sums
 
@@ -80,7 +78,7 @@ module _ (spot : ℕ → Spot) where
   unfolding level_at sum_of
   level_none l = refl
 
-  below_length : (g n : ℕ) → length (levels_below spot g n) ≡ n
+  pub below_length : (g n : ℕ) → length (levels_below spot g n) ≡ n
   unfolding levels_below
   below_length g zero = refl
   below_length g (suc n) = length_snoc (levels_below spot g n) _ ∙ ap suc (below_length g n)
@@ -116,11 +114,6 @@ module _ (spot : ℕ → Spot) where
           same_or_not i (spot g).at
           (λ q. rw q (get_or-set_same (levels_below spot g n) (spot g).at v no_gates (omega (arith, below_length g n)) ∙ sym (below_at (suc g) n (spot g).at h)))
           (λ q. get_or-set_other (levels_below spot g n) (spot g).at i v no_gates q ∙ below_at g n i l ∙ sym (level_elsewhere g i (λ r. q (sym r))) ∙ sym (below_at (suc g) n i l))
-
-  -- nothing counted in no records
-  pub none_over : (old : List Level) → over (levels_below spot 0 0) old ≡ old
-  unfolding levels_below
-  none_over old = over_none old
 
   -- spots that agree give the same records
   level_agree : (spot' : ℕ → Spot) (g l : ℕ) → ((j : ℕ) → j < g → spot j ≡ spot' j) → level_at spot g l ≡ level_at spot' g l
@@ -243,31 +236,28 @@ module _ {spot : ℕ → Spot} {n : ℕ} (ls : List Level) (t : Countable spot n
     gained-more = ap (λ (p : Spot). gained spot g + p.multiplications) e ∙ sum_more _ g
 
 -- ---- for the levels cleared and then counted: both together count, and the first leaves what the second asks
-module _ {spot : ℕ → Spot} {g c : ℕ} (old : List Level) (s : Countable spot g c) {mid : List Level} (e : mid ≡ over (replicate c no_gates) old) where
-  counts : (n : ℕ) → n ≤ g → tallied spot n mid ≡ over (levels_below spot n c) old
+module _ {spot : ℕ → Spot} {g c : ℕ} (s : Countable spot g c) {mid : List Level} (e : mid ≡ replicate c no_gates) where
+  counts : (n : ℕ) → n ≤ g → tallied spot n mid ≡ levels_below spot n c
   unfolding tallied with_spot
-  counts zero h = e ∙ ap (λ (f : List Level). over f old) (sym (below_none spot c))
+  counts zero h = e ∙ sym (below_none spot c)
   counts (suc n) h =
       let d = (spot n).at in
       let now : List Level = levels_below spot n c in
       let low : d < c = s.low n (omega arith) in
-      let there : d < length now = omega (arith, below_length spot n c) in
-      let is : get_or (over now old) d no_gates ≡ level_at spot n d = over-get_or now old no_gates d there ∙ below_at spot n c d low in
       ap (λ (t : List Level). set t d (bump (get_or t d no_gates) (spot n))) (counts n (omega arith))
-      ∙ ap (λ (v : Level). set (over now old) d (bump v (spot n))) is
-      ∙ ap (set (over now old) d) (sym (level_here spot n))
-      ∙ over-set now old d _ there
-      ∙ ap (λ (t : List Level). over t old) (below_more spot n c low)
+      ∙ ap (λ (v : Level). set now d (bump v (spot n))) (below_at spot n c d low)
+      ∙ ap (set now d) (sym (level_here spot n))
+      ∙ below_more spot n c low
 
-  pub both_count : {new : List Level} → new ≡ tallied spot g mid → new ≡ over (levels_below spot g c) old
+  pub both_count : {new : List Level} → new ≡ tallied spot g mid → new ≡ levels_below spot g c
   both_count h = h ∙ counts g (omega arith)
 
-pub levels_stand : {net ds : List ℕ} {i g c : ℕ} {old mid : List Level} → Clears net ds i g c old → mid ≡ over (replicate c no_gates) old → Tallies net ds i g mid
-levels_stand {net} {ds} {c = c} {old = old} s e =
-    let long = ap length e ∙ fill_length no_gates old c s.room in
+pub levels_stand : {net ds : List ℕ} {c : ℕ} {mid : List Level} → Clears net ds c → mid ≡ replicate c no_gates → Tallies net ds (inputs_of net) (gates_of net) mid
+levels_stand {net} {ds} {c} {mid} s e =
+    let long : length mid ≡ c = ap length e ∙ length-replicate c no_gates in
     record {
       stands = s.stands;
-      countable = record { limit = s.countable.limit; slight = s.countable.slight; low = λ k h. omega (arith, s.countable.low k h, s.room, long) };
+      countable = record { limit = s.countable.limit; slight = s.countable.slight; low = λ k h. omega (arith, s.countable.low k h, long) };
       none = λ k h.
-          ap (λ (t : List Level). get_or t (spot_of net ds k).at no_gates) e ∙ fill_at no_gates old c (spot_of net ds k).at (s.countable.low k h);
+          ap (λ (t : List Level). get_or t (spot_of net ds k).at no_gates) e ∙ get_or-replicate c (spot_of net ds k).at no_gates no_gates (s.countable.low k h);
     }

@@ -5,6 +5,7 @@ use mathlib.Core.Bool.{Bool, true, false}
 use mathlib.Core.List.{List, [], ◌∷◌, ◌++◌, map}
 use native.Mathlib.Omega.{arith}
 use native.Mathlib.Numerals.{add-one}
+use mir.Val.{bool_byte}
 use lib.Dec.{eqb}
 use lib.ListN.{get_or}
 use borrow.Author.Tests.{ne_eqb}
@@ -21,6 +22,10 @@ use Rattle.meter.proofs.Levels.{sum_none, sum_more, sum_add, total-ands, total-m
 pub one_le : (t : Bool) → one t ≤ 1
 one_le true = omega arith
 one_le false = omega arith
+
+pub one_is : (t : Bool) → bool_byte t ≡ one t
+one_is true = refl
+one_is false = refl
 
 module _ (net ds : List ℕ) (g : ℕ) where
   pub spot_at : (spot_of net ds g).at ≡ get_or ds (inputs_of net + g) 0

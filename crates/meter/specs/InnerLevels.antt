@@ -1,21 +1,11 @@
--- Inner: only contracts of private functions cite this. The pass that counts the gates of a measured netlist: what is left
--- to it, what it is lent, and what it leaves. It counts any spots; which gates multiply, `spot_of` alone says.
+-- Inner: only contracts of private functions cite this. The pass that counts the gates of a measured netlist: what it is
+-- lent, and what it leaves. It counts any spots; which gates multiply, `spot_of` alone says.
 use Rattle.std.specs.Prelude.{ℕ, zero, suc, ◌+◌, ◌<◌, ◌≤◌, ◌≡◌, List, length, get_or, set}
-use Rattle.answer.specs.declared.Answer.{Answer}
-use Rattle.answer.specs.Answers.{if_done}
-use Rattle.answer.specs.Fronts.{over, left}
-use Rattle.netlist.specs.Net.{depths, depth, mults}
-use Rattle.netlist.specs.Words.{inputs_of, gate_place, net_of}
+use Rattle.netlist.specs.Words.{inputs_of, gates_of, gate_place}
 use Rattle.netlist.specs.Check.{gate_limit}
 use Rattle.meter.specs.declared.Level.{Level}
-use Rattle.meter.specs.declared.Plan.{Plan}
 use Rattle.meter.specs.declared.Spot.{Spot}
-use Rattle.meter.specs.Levels.{spot_of, sum_of, levels, levels_below}
-use Rattle.meter.specs.Meter.{depths_answer, meter_answer}
-
--- nothing to count after a refusal
-unfoldable pub no_plan : Answer → Plan
-no_plan a = record { answer = a; depth = 0; inputs = 0; gates = 0; levels = 0 }
+use Rattle.meter.specs.Levels.{spot_of, sum_of}
 
 abbrev pub no_gates : Level
 no_gates = record { ands = 0; muxes = 0 }
@@ -59,20 +49,7 @@ pub record Tallies (net ds : List ℕ) (i n : ℕ) (ls : List Level) : Type 0 wh
   pub countable : Countable (spot_of net ds) n (length ls)
   pub none : (k : ℕ) → k < n → get_or ls (spot_of net ds k).at no_gates ≡ no_gates
 
--- the same for c records that are still to be cleared, of those lent
-pub record Clears (net ds : List ℕ) (i n c : ℕ) (ls : List Level) : Type 0 where
-  pub stands : (k : ℕ) → k < n → Stands net ds i k
-  pub countable : Countable (spot_of net ds) n c
-  pub room : c ≤ length ls
-
--- What is answered by a call that was lent net, ds and room records, what it leaves in ds, and what is left to count: the
--- gates that multiply, and, whatever the records hold, the counts that written over them are what the answer leaves.
-pub record PlannedAs (net ds : List ℕ) (room : ℕ) (p : Plan) (ds' : List ℕ) : Type 0 where
-  pub answered : p.answer ≡ meter_answer net (length ds) room
-  pub deep : p.depth ≡ if_done p.answer (depth (net_of net))
-  pub filled : ds' ≡ left (depths_answer net (length ds)) (depths (net_of net)) ds
-  pub stands : (k : ℕ) → k < p.gates → Stands net ds' p.inputs k
-  pub countable : Countable (spot_of net ds') p.gates p.levels
-  pub fits : p.levels ≤ room
-  pub multiply : gained (spot_of net ds') p.gates ≡ if_done p.answer (mults (net_of net))
-  pub counts : (ls : List Level) → over (levels_below (spot_of net ds') p.gates p.levels) ls ≡ left p.answer (levels net) ls
+-- the same for all gates and c records, which are still to be cleared
+pub record Clears (net ds : List ℕ) (c : ℕ) : Type 0 where
+  pub stands : (k : ℕ) → k < gates_of net → Stands net ds (inputs_of net) k
+  pub countable : Countable (spot_of net ds) (gates_of net) c

@@ -1,8 +1,7 @@
 -- The meter. docs/RULES.md, "Netlists": it fills a depth list and a list of level records, and returns depth and multiplications.
 -- Lists: 1 the netlist, 2 the depths, 3 the levels.
 use Rattle.std.specs.Prelude.{ℕ, ◌+◌, ◌≡◌, List, length}
-use Rattle.answer.specs.declared.Answer.{Answer}
-use Rattle.answer.specs.Answers.{◌▹◌, if_done}
+use Rattle.answer.specs.Answers.{Answer, ◌▹◌, if_done}
 use Rattle.answer.specs.Fronts.{left}
 use Rattle.answer.specs.Judges.{room_answer}
 use Rattle.netlist.specs.Net.{depths, depth, mults}

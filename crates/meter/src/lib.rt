@@ -6,48 +6,41 @@
 ghost use Rattle.std.specs.Prelude.{◌≡◌, map, ℕ, ◌+◌, ◌/◌, ◌≤◌, ◌<◌, max, length, get_or, take, drop, replicate, eqb};
 ghost use Rattle.answer.specs.Fronts.{over};
 ghost use Rattle.netlist.specs.Net.{at, dep_alg, max_of};
+ghost use Rattle.netlist.specs.Words.{gates_of};
 ghost use Rattle.netlist.specs.Check.{gate_limit};
 ghost use Rattle.meter.specs.Levels.{one, spot_of, levels_below};
 ghost use Rattle.meter.specs.Meter.{depths_answer, MeteredAs};
-ghost use Rattle.meter.specs.InnerDepths.{depths_to, DepthsLent, MeasuredAs};
-ghost use Rattle.meter.specs.InnerLevels.{no_plan, PlannedAs, no_gates, tallied, gained, Stands, Tallies, Clears};
+ghost use Rattle.meter.specs.InnerDepths.{depths_to, DepthsLent, MeasuredAs, PreparedAs};
+ghost use Rattle.meter.specs.InnerLevels.{no_gates, tallied, gained, Stands, Tallies, Clears};
 
-use answer::Answer;
+use answer::{Answer, Refusal};
+use netlist::counts::counts_of;
 use netlist::gate::{AND_KIND, MUX_KIND};
 use netlist::{GATE_STRIDE, HEADER_WORDS};
 
 // A level record: the AND gates and the MUX gates of one depth.
 #[repr(C)]
-#[derive(Clone, Copy)]
+#[derive(Clone, Copy, Debug, PartialEq, Eq)]
 pub struct Level {
     pub ands: u32,
     pub muxes: u32,
 }
 
-// The answer, with the netlist's depth and its multiplications, both 0 on a refusal.
-#[derive(Clone, Copy)]
+const NO_GATES: Level = Level { ands: 0, muxes: 0 };
+
+// The answer, with the netlist's depth and its multiplications. A struct and no Result, since the rules say what
+// the two are on a refusal: both 0.
+#[derive(Clone, Copy, Debug, PartialEq, Eq)]
 pub struct Metered {
     pub answer: Answer,
     pub depth: u32,
     pub multiplications: u32,
 }
 
-// What the depths tell: the answer up to them, the netlist's depth, and how many levels there are.
+// What the depths tell: the netlist's depth, and how many levels there are.
 #[derive(Clone, Copy)]
 struct Measured {
-    answer: Answer,
     depth: u32,
-    levels: usize,
-}
-
-// The answer and the netlist's depth, and how many gates, after how many inputs, are still to be counted in how
-// many levels: none on a refusal.
-#[derive(Clone, Copy)]
-struct Plan {
-    answer: Answer,
-    depth: u32,
-    inputs: usize,
-    gates: usize,
     levels: usize,
 }
 
@@ -60,41 +53,25 @@ struct Spot {
     multiplications: u32,
 }
 
-fn larger(a: u32, b: u32) -> u32
-    ensures { result ≡ max a b }
-{
-    if a < b { b } else { a }
-}
-
 // The depth of a gate of the given kind whose operand words name wires of depth x, y and z. An unused one is
 // 0, and wire 0 has depth 0, so that it does not count. Kinds 4 and 5, AND and MUX, are one deeper than their
-// deepest operand.
+// deepest operand; reckoned with the number and not branched on a Gate, since kinds come in no order.
 fn gate_depth(kind: u32, x: u32, y: u32, z: u32) -> u32
     requires { (kind ≤ 5) × (max x (max y z) ≤ gate_limit) }
     ensures { result ≡ max x (max y z) + kind / 4 }
 {
-    larger(x, larger(y, z)) + kind / 4
+    x.max(y.max(z)) + kind / 4
 }
 
-// The first count words 0.
-fn clear(list: &mut [u32], count: usize)
-    requires { count ≤ length list.old }
-    ensures { list.new ≡ over (replicate count 0) list.old }
-{
-    let mut i: usize = 0;
-    while i < count {
-        list[i] = 0;
-        i += 1;
-    }
-}
-
-// The gates' depths, after those of the inputs, where all depths stand at 0.
+// The gates' depths, after those of the inputs, where all depths stand at 0. inputs and gates are two of the netlist's
+// counts, here and below as places of lists, and read once. That the netlist is accepted stands in `DepthsLent`, for
+// this and the next function alone: a type of accepted netlists would serve no other here.
+#[tactic(auto, using(crate::proofs::Depths::first_low, crate::proofs::Depths::second_low, crate::proofs::Depths::third_low))]
 fn put_gates(net: &[u32], depths: &mut [u32], inputs: usize, gates: usize)
     requires { (DepthsLent net.now inputs gates depths.old) × (depths.old ≡ over (replicate (inputs + gates) 0) depths.old) }
     ensures { depths.new ≡ over (depths_to net.now gates) depths.old }
 {
-    let mut g: usize = 0;
-    while g < gates {
+    for g in 0..gates {
         let at = HEADER_WORDS + GATE_STRIDE * g;
         let kind = net[at];
         let i = net[at + 1] as usize;
@@ -103,7 +80,6 @@ fn put_gates(net: &[u32], depths: &mut [u32], inputs: usize, gates: usize)
         let deep = gate_depth(kind, depths[i], depths[j], depths[k]);
         let wire = inputs + g;
         depths[wire] = deep;
-        g += 1;
     }
 }
 
@@ -113,146 +89,84 @@ fn put_depths(net: &[u32], depths: &mut [u32], inputs: usize, gates: usize)
     requires { DepthsLent net.now inputs gates depths.old }
     ensures { depths.new ≡ over (depths_to net.now gates) depths.old }
 {
-    clear(depths, inputs + gates);
+    depths[..inputs + gates].fill(0);
     put_gates(net, depths, inputs, gates);
 }
 
-// The largest of count depths, 0 of none.
-fn largest(depths: &[u32], count: usize) -> u32
-    requires { count ≤ length depths.now }
-    ensures { result ≡ max_of (take count depths.now) }
+// The largest of some depths, 0 of none. By a loop, as the next one: what the iterator's `max` promises is a pick by
+// `cmp`, and no law at hand makes a number of that.
+fn largest(depths: &[u32]) -> u32
+    ensures { result ≡ max_of depths.now }
 {
     let mut top: u32 = 0;
-    let mut i: usize = 0;
-    while i < count {
-        top = larger(top, depths[i]);
-        i += 1;
+    for &depth in depths {
+        top = top.max(depth);
     }
     top
 }
 
-// The largest depth over the outputs, whose wires begin at word start.
-fn largest_output(net: &[u32], depths: &[u32], start: usize, count: usize) -> u32
-    requires { (start + count ≡ length net.now) × ((o : ℕ) → o < count → get_or net.now (start + o) 0 < length depths.now) }
-    ensures { result ≡ max_of (map (at dep_alg depths.now) (drop start net.now)) }
+// The largest depth over some output wires.
+fn largest_output(wires: &[u32], depths: &[u32]) -> u32
+    requires { (o : ℕ) → o < length wires.now → get_or wires.now o 0 < length depths.now }
+    ensures { result ≡ max_of (map (at dep_alg depths.now) wires.now) }
 {
     let mut top: u32 = 0;
-    let mut o: usize = 0;
-    while o < count {
-        let wire = net[start + o] as usize;
-        top = larger(top, depths[wire]);
-        o += 1;
+    for &wire in wires {
+        top = top.max(depths[wire as usize]);
     }
     top
 }
 
 // Rule 9, then 8 on the depth list, for which room words are lent.
+#[tactic(auto, using(answer::proofs::Rows::stop, answer::proofs::Rows::go), unfolding(crate::specs::Meter::depths_answer))]
 fn judge(net: &[u32], room: usize) -> Answer
     ensures { result ≡ depths_answer net.now room }
 {
-    let r = netlist::check::check_as(net, 1);
-    let Answer::Done = r else {
-        return r;
-    };
-    let c = netlist::counts::counts_of(net);
+    netlist::check::check_as(net, 1)?;
+    let c = counts_of(net);
     answer::room(room, c.inputs as usize + c.gates as usize, 2)
 }
 
 // Judges up to the depths, and fills them where that is done.
-fn measure(net: &[u32], depths: &mut [u32]) -> Measured
+fn measure(net: &[u32], depths: &mut [u32]) -> Result<Measured, Refusal>
     ensures { MeasuredAs net.now depths.old result depths.new }
 {
-    let r = judge(net, depths.len());
-    let Answer::Done = r else {
-        return Measured {
-            answer: r,
-            depth: 0,
-            levels: 0,
-        };
-    };
-    let c = netlist::counts::counts_of(net);
+    judge(net, depths.len())?;
+    let c = counts_of(net);
     let i = c.inputs as usize;
     let g = c.gates as usize;
-    let o = c.outputs as usize;
     put_depths(net, depths, i, g);
-    let top = largest(depths, i + g);
-    let deep = largest_output(net, depths, HEADER_WORDS + GATE_STRIDE * g, o);
-    Measured {
-        answer: Answer::Done,
+    let top = largest(&depths[..i + g]);
+    let deep = largest_output(&net[HEADER_WORDS + GATE_STRIDE * g..], depths);
+    Ok(Measured {
         depth: deep,
         levels: top as usize + 1,
-    }
+    })
 }
 
-fn one_if(a: u32, b: u32) -> u32
-    ensures { result ≡ one (eqb a b) }
+// Judges all, the level list by its room, and fills the depths unless an earlier judge than that one refuses.
+fn prepare(net: &[u32], depths: &mut [u32], room: usize) -> Result<Measured, Refusal>
+    ensures { PreparedAs net.now depths.old room result depths.new }
 {
-    if a == b { 1 } else { 0 }
+    let measured = measure(net, depths)?;
+    answer::room(room, measured.levels, 3)?;
+    Ok(measured)
 }
 
-// A refusal, after which there is nothing to count.
-fn refused(answer: Answer) -> Plan
-    ensures { result ≡ no_plan answer }
-{
-    Plan {
-        answer,
-        depth: 0,
-        inputs: 0,
-        gates: 0,
-        levels: 0,
-    }
-}
-
-// Judges all, fills the depths, and says what is left to count in a level list of room records.
-fn prepare(net: &[u32], depths: &mut [u32], room: usize) -> Plan
-    ensures { PlannedAs net.now depths.old room result depths.new }
-{
-    let p = measure(net, depths);
-    let r = p.answer;
-    let Answer::Done = r else {
-        return refused(r);
-    };
-    let levels = p.levels;
-    let fits = answer::room(room, levels, 3);
-    let Answer::Done = fits else {
-        return refused(fits);
-    };
-    let c = netlist::counts::counts_of(net);
-    Plan {
-        answer: Answer::Done,
-        depth: p.depth,
-        inputs: c.inputs as usize,
-        gates: c.gates as usize,
-        levels,
-    }
-}
-
-// What gate g adds, and where.
+// What gate g adds, and where. Its kind is compared as a number and not taken as a Gate, since kinds come in no order.
 fn spot_of(net: &[u32], depths: &[u32], inputs: usize, g: usize) -> Spot
     requires { Stands net.now depths.now inputs g }
     ensures { result ≡ spot_of net.now depths.now g }
 {
     let at = depths[inputs + g] as usize;
     let kind = net[HEADER_WORDS + GATE_STRIDE * g];
-    let a = one_if(kind, AND_KIND);
-    let m = one_if(kind, MUX_KIND);
+    let a = u32::from(kind == AND_KIND);
+    let m = u32::from(kind == MUX_KIND);
     Spot {
         at,
         ands: a,
         muxes: m,
         multiplications: a + m,
-    }
-}
-
-// The first count records without gates.
-fn clear_levels(levels: &mut [Level], count: usize)
-    requires { count ≤ length levels.old }
-    ensures { levels.new ≡ over (replicate count no_gates) levels.old }
-{
-    let mut l: usize = 0;
-    while l < count {
-        levels[l] = Level { ands: 0, muxes: 0 };
-        l += 1;
     }
 }
 
@@ -262,43 +176,44 @@ fn tally(net: &[u32], depths: &[u32], levels: &mut [Level], inputs: usize, gates
     ensures { (result ≡ gained (spot_of net.now depths.now) gates) × (levels.new ≡ tallied (spot_of net.now depths.now) gates levels.old) }
 {
     let mut n: u32 = 0;
-    let mut g: usize = 0;
-    while g < gates {
+    for g in 0..gates {
         let s = spot_of(net, depths, inputs, g);
         let at = s.at;
         levels[at].ands += s.ands;
         levels[at].muxes += s.muxes;
         n += s.multiplications;
-        g += 1;
     }
     n
 }
 
-// The level records, cleared and counted, and what multiplies.
-fn put_levels(
-    net: &[u32],
-    depths: &[u32],
-    levels: &mut [Level],
-    inputs: usize,
-    gates: usize,
-    count: usize,
-) -> u32
-    requires { Clears net.now depths.now inputs gates count levels.old }
-    ensures { (result ≡ gained (spot_of net.now depths.now) gates) × (levels.new ≡ over (levels_below (spot_of net.now depths.now) gates count) levels.old) }
+// Level records cleared and counted, and what multiplies.
+fn put_levels(net: &[u32], depths: &[u32], levels: &mut [Level]) -> u32
+    requires { Clears net.now depths.now (length levels.old) }
+    ensures multiply { result ≡ gained (spot_of net.now depths.now) (gates_of net.now) }
+    ensures counts { levels.new ≡ levels_below (spot_of net.now depths.now) (gates_of net.now) (length levels.old) }
 {
-    clear_levels(levels, count);
-    tally(net, depths, levels, inputs, gates)
+    let c = counts_of(net);
+    levels.fill(NO_GATES);
+    tally(net, depths, levels, c.inputs as usize, c.gates as usize)
 }
 
-// A refusal leaves no gate to count and no level to write: put_levels then keeps the list as it is.
+// A refusal leaves no gate to count and no level to write: the list stays as it is.
 pub fn meter(net: &[u32], depths: &mut [u32], levels: &mut [Level]) -> Metered
     ensures { MeteredAs net.now depths.old levels.old result depths.new levels.new }
 {
-    let p = prepare(net, depths, levels.len());
-    let n = put_levels(net, depths, levels, p.inputs, p.gates, p.levels);
-    Metered {
-        answer: p.answer,
-        depth: p.depth,
-        multiplications: n,
+    match prepare(net, depths, levels.len()) {
+        Ok(measured) => {
+            let multiplications = put_levels(net, depths, &mut levels[..measured.levels]);
+            Metered {
+                answer: Ok(()),
+                depth: measured.depth,
+                multiplications,
+            }
+        }
+        Err(refusal) => Metered {
+            answer: Err(refusal),
+            depth: 0,
+            multiplications: 0,
+        },
     }
 }

@@ -1,6 +1,6 @@
 -- What a call that emits a netlist answers and leaves.
+use Rattle.answer.specs.Answers.{Answer}
 use Rattle.std.specs.Prelude.{ℕ, ◌≡◌, List}
-use Rattle.answer.specs.declared.Answer.{Answer}
 use Rattle.answer.specs.Fronts.{left}
 use Rattle.netlist.specs.Net.{Net}
 use Rattle.netlist.specs.Words.{words}

@@ -17,9 +17,9 @@ pub fn counts_of(net: &[u32]) -> Counts
     ensures { result ≡ counts_of net.now }
 {
     Counts {
-        inputs: answer::word_at(net, 0),
-        gates: answer::word_at(net, 1),
-        outputs: answer::word_at(net, 2),
+        inputs: answer::get_or(net, 0, 0),
+        gates: answer::get_or(net, 1, 0),
+        outputs: answer::get_or(net, 2, 0),
     }
 }
 

@@ -1,10 +1,11 @@
--- What Done tells of score.
+-- What done tells of score.
 use Prim.Native.Nat.{ℕ, ◌+◌, ◌≤◌}
 use mathlib.Core.Path.{◌≡◌, ◌∙◌}
 use mathlib.Core.List.{List}
 use lib.ListN.{length}
 use borrow.Author.Tests.{eqb-true, ltb-false, not-false}
-use Rattle.answer.specs.declared.Answer.TheVariants.{Done}
+use Rattle.std.specs.Prelude.{Ok}
+use Rattle.answer.specs.declared.Reason.TheVariants as reason
 use Rattle.answer.proofs.Rows.{first_done, then_done, refuse_done, one_of, two_of, three_of}
 use Rattle.netlist.specs.Words.{inputs_of, gates_of, outputs_of}
 use Rattle.netlist.specs.Check.{gate_limit}
@@ -32,7 +33,7 @@ pub record Spacious (inst m : ℕ) (a b : List ℕ) (lent : Rooms) : Type 0 wher
   pub wires : key_bits inst + m + (gates_of a + gates_of b) ≤ lent.wires
   pub scores : outputs_of b ≤ lent.scores
 
-rooms_done : (inst m : ℕ) (a b : List ℕ) (lent : Rooms) → rooms_answer inst m a b lent ≡ Done → Spacious inst m a b lent
+rooms_done : (inst m : ℕ) (a b : List ℕ) (lent : Rooms) → rooms_answer inst m a b lent ≡ Ok tt → Spacious inst m a b lent
 unfolding rooms_answer
 rooms_done inst m a b lent e =
     let e1 = then_done _ _ e in
@@ -54,18 +55,18 @@ pub record Fitting (inst m : ℕ) (a b : List ℕ) (lent : Rooms) : Type 0 where
   pub fits : m ≡ inputs_of b
   pub few : gates_of a + gates_of b ≤ gate_limit
 
-results_done : (inst m : ℕ) (a b : List ℕ) (lent : Rooms) → results_answer inst m a b lent ≡ Done → Fitting inst m a b lent
+results_done : (inst m : ℕ) (a b : List ℕ) (lent : Rooms) → results_answer inst m a b lent ≡ Ok tt → Fitting inst m a b lent
 unfolding results_answer
 results_done inst m a b lent e =
     let r = then_done _ _ e in
     record {
       sound = done_sound 5 b (first_done _ _ e);
       space = rooms_done inst m a b lent (one_of _ _ _ r);
-      fits = eqb-true _ _ (not-false _ (refuse_done 10 0 0 _ (two_of _ _ _ r)));
-      few = ltb-false _ _ (refuse_done 11 0 0 _ (three_of _ _ _ r));
+      fits = eqb-true _ _ (not-false _ (refuse_done reason.Fit 0 0 _ (two_of _ _ _ r)));
+      few = ltb-false _ _ (refuse_done reason.Gates 0 0 _ (three_of _ _ _ r));
     }
 
-module _ (inst m : ℕ) (key rec idx wh score : List ℕ) (lent : Rooms) (done : score_answer inst m key rec idx wh score lent ≡ Done) where
+module _ (inst m : ℕ) (key rec idx wh score : List ℕ) (lent : Rooms) (done : score_answer inst m key rec idx wh score lent ≡ Ok tt) where
   pub fitting : Fitting inst m (decipher_words inst m idx wh) score lent
   unfolding score_answer
   fitting = results_done inst m _ score lent (then_done _ _ done)
@@ -85,10 +86,10 @@ module _ (inst m : ℕ) (key rec idx wh score : List ℕ) (lent : Rooms) (done :
   bits = accepted.2
 
   -- No step refuses.
-  pub encipher_done : encipher_answer inst m key rec idx wh lent.enciphered ≡ Done
+  pub encipher_done : encipher_answer inst m key rec idx wh lent.enciphered ≡ Ok tt
   encipher_done = encipher_accepted inst m key rec idx wh _ wired keyed bits fitting.space.enciphered
 
-  pub emit_done : decipher_answer inst m idx wh lent.deciphering ≡ Done
+  pub emit_done : decipher_answer inst m idx wh lent.deciphering ≡ Ok tt
   emit_done = decipher_accepted inst m idx wh _ wired fitting.space.deciphering
 
   pub glue_fit : Fit (decipher_words inst m idx wh) score lent.glued

@@ -1,16 +1,17 @@
 -- What score answers, from what its judges do: 1 to 7 are those of enciphering, in the parts that the code has.
 use Prim.Native.Nat.{ℕ, ◌+◌}
-use mathlib.Core.Path.{◌≡◌, refl, sym, ap, ap₂, ◌∙◌}
+use mathlib.Core.Path.{◌≡◌, refl, sym, ap, ◌∙◌}
 use mathlib.Core.Bool.{not}
 use mathlib.Core.List.{List}
 use native.Mathlib.Omega.{arith}
 use lib.ListN.{length}
 use lib.Dec.{ltb, eqb}
-use Rattle.answer.specs.declared.Answer.{Answer}
-use Rattle.answer.specs.declared.Answer.TheVariants.{Done, Refused}
-use Rattle.answer.specs.Answers.{◌▹◌, refuse}
+use Rattle.std.specs.Prelude.{Err, Ok}
+use Rattle.answer.specs.declared.Reason.TheVariants.{Fit, Gates}
+use Rattle.answer.specs.declared.Refusal.{Refusal}
+use Rattle.answer.specs.Answers.{Answer, ◌▹◌, refuse}
 use Rattle.answer.specs.Bits.{bits_answer}
-use Rattle.answer.proofs.Rows.{first_done, then_done, both, pass, stop}
+use Rattle.answer.proofs.Rows.{first_done, then_done, both, pass, stop, stop_by}
 use Rattle.netlist.specs.Words.{gate_place, inputs_of, gates_of, outputs_of}
 use Rattle.netlist.specs.Check.{gate_limit, net_answer}
 use Rattle.instance.specs.Table.{key_bits, row_bits}
@@ -28,16 +29,16 @@ use Rattle.path.proofs.Lists.{wiring_renamed, renamed_done}
 -- rows of answers, however they are grouped
 row-row : (a b c : Answer) → (a ▹ b) ▹ c ≡ a ▹ b ▹ c
 unfolding ◌▹◌
-row-row Done b c = refl
-row-row (Refused n l p) b c = refl
+row-row (Ok _) b c = refl
+row-row (Err r) b c = refl
 
-row_end : (a : Answer) {b : Answer} → b ≡ Done → a ▹ b ≡ a
+row_end : (a : Answer) {b : Answer} → b ≡ Ok tt → a ▹ b ≡ a
 unfolding ◌▹◌
-row_end Done e = e
-row_end (Refused n l p) e = refl
+row_end (Ok _) e = e
+row_end (Err r) e = refl
 
 -- a length that is not refused as one list of a call is not refused as another
-length_done_as : (l k a b : ℕ) → length_answer l a b ≡ Done → length_answer k a b ≡ Done
+length_done_as : (l k a b : ℕ) → length_answer l a b ≡ Ok tt → length_answer k a b ≡ Ok tt
 length_done_as l k a b e = done_length k a b (length_done l a b e)
 
 module _ (inst m : ℕ) (key rec idx wh : List ℕ) where
@@ -66,7 +67,7 @@ module _ (inst m : ℕ) (key rec idx wh : List ℕ) where
       sym (row-row _ _ _) ∙ ap (λ (a : Answer). sizes ▹ a) f
 
   -- emission's judging of the wiring, whose lists 1 and 2 are 3 and 4 here
-  pub wiring_is : sizes ≡ Done → renamed_to 2 4 (renamed_to 1 3 (wiring_answer inst m idx wh)) ≡ wiring
+  pub wiring_is : sizes ≡ Ok tt → renamed_to 2 4 (renamed_to 1 3 (wiring_answer inst m idx wh)) ≡ wiring
   unfolding sizes_answer wiring_lengths wiring_rows wiring_answer
   wiring_is e =
       let l = then_done _ _ (then_done _ _ (then_done _ _ e)) in
@@ -76,7 +77,7 @@ module _ (inst m : ℕ) (key rec idx wh : List ℕ) where
       ∙ ap (renamed_to 2 4) (wiring_renamed 1 3 1 2 inst idx wh)
       ∙ wiring_renamed 2 4 3 2 inst idx wh
 
-  pub wiring_accepted : sizes ≡ Done → wiring ≡ Done → wiring_answer inst m idx wh ≡ Done
+  pub wiring_accepted : sizes ≡ Ok tt → wiring ≡ Ok tt → wiring_answer inst m idx wh ≡ Ok tt
   wiring_accepted e h = renamed_done 1 3 _ (renamed_done 2 4 _ (wiring_is e ∙ h))
 
   -- The judges in a row.
@@ -84,31 +85,30 @@ module _ (inst m : ℕ) (key rec idx wh : List ℕ) where
     abbrev due : Answer
     due = score_answer inst m key rec idx wh score lent
 
-    early : {r : Answer} {x y z : ℕ} → r ≡ sizes ▹ bits ▹ wiring → r ≡ Refused x y z → r ≡ due
+    early : {r s : Answer} {e : Refusal} → s ≡ Err e → r ≡ sizes ▹ bits ▹ wiring → r ≡ Err e → s ≡ due
     unfolding score_answer
-    early e h = stop _ (e ∙ sym encipher_parts) h
+    early k e h = stop_by _ k (e ∙ sym encipher_parts) h
 
-    pub refused_sizes : {r : Answer} {x y z : ℕ} → r ≡ sizes → r ≡ Refused x y z → r ≡ due
-    refused_sizes e h = early (stop _ e h) h
+    pub refused_sizes : {r s : Answer} {e : Refusal} → s ≡ Err e → r ≡ sizes → r ≡ Err e → s ≡ due
+    refused_sizes k e h = early k (stop _ e h) h
 
-    pub refused_bits : {r : Answer} {x y z : ℕ} → sizes ≡ Done → r ≡ bits → r ≡ Refused x y z → r ≡ due
-    refused_bits d e h = early (pass d (stop _ e h)) h
+    pub refused_bits : {r s : Answer} {e : Refusal} → s ≡ Err e → sizes ≡ Ok tt → r ≡ bits → r ≡ Err e → s ≡ due
+    refused_bits k d e h = early k (pass d (stop _ e h)) h
 
-    pub refused_wiring : {r : Answer} {x y z : ℕ} → sizes ≡ Done → bits ≡ Done → r ≡ wiring → r ≡ Refused x y z → r ≡ due
-    refused_wiring d b e h = early (pass d (pass b e)) h
+    pub refused_wiring : {s : Answer} {e : Refusal} → s ≡ Err e → sizes ≡ Ok tt → bits ≡ Ok tt → Err e ≡ wiring → s ≡ due
+    refused_wiring k d b e = early k (pass d (pass b e)) refl
 
-    pub judged : {r : Answer} → sizes ≡ Done → bits ≡ Done → wiring ≡ Done → r ≡ results_answer inst m (decipher_words inst m idx wh) score lent → r ≡ due
+    pub judged : {r : Answer} → sizes ≡ Ok tt → bits ≡ Ok tt → wiring ≡ Ok tt → r ≡ results_answer inst m (decipher_words inst m idx wh) score lent → r ≡ due
     unfolding score_answer
     judged d b w e = pass (encipher_parts ∙ both d (both b w)) e
 
 -- 9, 8, 10 and 11 from the netlists' counts
-pub results_are : (inst m k gates words g o i : ℕ) (a b : List ℕ) (lent : Rooms) {nine eight last late r : Answer}
+pub results_are : (inst m k gates words g o i : ℕ) (a b : List ℕ) (lent : Rooms)
     → k ≡ key_bits inst → gates ≡ gates_of a → words ≡ length a → g ≡ gates_of b → o ≡ outputs_of b → i ≡ inputs_of b
-    → nine ≡ net_answer 5 b
-    → eight ≡ room_answer 6 lent.enciphered m ▹ room_answer 7 lent.deciphering words ▹ room_answer 8 lent.glued (gate_place (gates + g) + o)
-    ▹ room_answer 9 lent.inputs (k + m) ▹ room_answer 10 lent.wires (k + m + (gates + g)) ▹ room_answer 11 lent.scores o
-    → last ≡ refuse 10 0 0 (not (eqb m i)) ▹ refuse 11 0 0 (ltb gate_limit (gates + g))
-    → late ≡ eight ▹ last → r ≡ nine ▹ late → r ≡ results_answer inst m a b lent
+    → net_answer 5 b
+    ▹ (room_answer 6 lent.enciphered m ▹ room_answer 7 lent.deciphering words ▹ room_answer 8 lent.glued (gate_place (gates + g) + o)
+    ▹ room_answer 9 lent.inputs (k + m) ▹ room_answer 10 lent.wires (k + m + (gates + g)) ▹ room_answer 11 lent.scores o)
+    ▹ (refuse Fit 0 0 (not (eqb m i)) ▹ refuse Gates 0 0 (ltb gate_limit (gates + g)))
+    ≡ results_answer inst m a b lent
 unfolding results_answer rooms_answer
-results_are inst m k gates words g o i a b lent ek eg ew eh eo ei e9 e8 el ea er =
-    er ∙ ap₂ ◌▹◌ e9 (ea ∙ ap₂ ◌▹◌ (e8 ∙ rw (ek, eg, ew, eh, eo)) (el ∙ rw (eg, eh, ei)))
+results_are inst m k gates words g o i a b lent ek eg ew eh eo ei = rw (ek, eg, ew, eh, eo, ei)

@@ -4,9 +4,10 @@ use mathlib.Core.Path.{◌≡◌, refl, ap₂, ◌∙◌}
 use mathlib.Core.Bool.{Bool, true, false}
 use mathlib.Core.List.{List}
 use lib.Dec.{ltb, eqb}
-use Rattle.answer.specs.declared.Answer.{Answer}
-use Rattle.answer.specs.declared.Answer.TheVariants.{Done, Refused}
-use Rattle.answer.specs.Answers.{◌▹◌, refuse}
+use Rattle.std.specs.Prelude.{Err, Ok}
+use Rattle.answer.specs.declared.Reason.{Reason}
+use Rattle.answer.specs.declared.Reason.TheVariants.{Bit, Index, Repeat, Whitening}
+use Rattle.answer.specs.Answers.{Answer, ◌▹◌, refuse}
 use Rattle.answer.specs.Bits.{bits_answer}
 use Rattle.answer.specs.Choose.{choose}
 use Rattle.instance.specs.Table.{key_bits, row_bits}
@@ -20,33 +21,33 @@ module _ (from to : ℕ) where
 
   row : (a b : Answer) → renamed_to from to (a ▹ b) ≡ renamed_to from to a ▹ renamed_to from to b
   unfolding renamed_to ◌▹◌
-  row Done b = refl
-  row (Refused n l p) b = refl
+  row (Ok _) b = refl
+  row (Err r) b = refl
 
   row_renamed : (a b : Answer) {c d : Answer} → renamed_to from to a ≡ c → renamed_to from to b ≡ d → renamed_to from to (a ▹ b) ≡ c ▹ d
   row_renamed a b e h = row a b ∙ ap₂ ◌▹◌ e h
 
-  refuse_renamed : (n l p : ℕ) (b : Bool) → renamed_to from to (refuse n l p b) ≡ refuse n (here l) p b
+  refuse_renamed : (n : Reason) (l p : ℕ) (b : Bool) → renamed_to from to (refuse n l p b) ≡ refuse n (here l) p b
   unfolding renamed_to refuse
   refuse_renamed n l p true = refl
   refuse_renamed n l p false = refl
 
   bits_renamed : (l : ℕ) (s : List ℕ) → renamed_to from to (bits_answer l s) ≡ bits_answer (here l) s
   unfolding bits_answer first_answer
-  bits_renamed l s = refuse_renamed 4 l _ _
+  bits_renamed l s = refuse_renamed Bit l _ _
 
   rows_renamed : (l N n : ℕ) (s : List ℕ) → renamed_to from to (rows_answer l N n s) ≡ rows_answer (here l) N n s
   unfolding rows_answer first_answer
-  rows_renamed l N n s = row_renamed _ _ (refuse_renamed 5 l _ _) (refuse_renamed 6 l _ _)
+  rows_renamed l N n s = row_renamed _ _ (refuse_renamed Index l _ _) (refuse_renamed Repeat l _ _)
 
-  unless_renamed : (b : Bool) (x : Answer) {y : Answer} → renamed_to from to x ≡ y → renamed_to from to (choose b Done x) ≡ choose b Done y
+  unless_renamed : (b : Bool) (x : Answer) {y : Answer} → renamed_to from to x ≡ y → renamed_to from to (choose b (Ok tt) x) ≡ choose b (Ok tt) y
   unfolding renamed_to
   unless_renamed true x e = refl
   unless_renamed false x e = e
 
   white_renamed : (l inst : ℕ) (s : List ℕ) → renamed_to from to (white_answer l inst s) ≡ white_answer (here l) inst s
   unfolding white_answer first_answer
-  white_renamed l inst s = unless_renamed (ltb 2 inst) _ (refuse_renamed 7 l _ _)
+  white_renamed l inst s = unless_renamed (ltb 2 inst) _ (refuse_renamed Whitening l _ _)
 
   -- 4 on whitening or IV, list k; 5 and 6 on the indices, list l; 7
   pub wiring_renamed : (l k inst : ℕ) (idx wh : List ℕ)
@@ -55,7 +56,7 @@ module _ (from to : ℕ) where
   wiring_renamed l k inst idx wh =
       row_renamed _ _ (bits_renamed k wh) (row_renamed _ _ (rows_renamed l _ _ idx) (white_renamed k inst wh))
 
-  pub renamed_done : (a : Answer) → renamed_to from to a ≡ Done → a ≡ Done
+  pub renamed_done : (a : Answer) → renamed_to from to a ≡ Ok tt → a ≡ Ok tt
   unfolding renamed_to
-  renamed_done Done e = refl
-  renamed_done (Refused n l p) e = cc
+  renamed_done (Ok _) e = refl
+  renamed_done (Err r) e = cc

@@ -4,8 +4,9 @@ use mathlib.Core.Path.{◌≡◌, refl, sym, ap, subst, ◌∙◌}
 use mathlib.Core.List.{List, ◌++◌}
 use native.Mathlib.Omega.{arith}
 use lib.ListN.{length, take, length-append}
-use Rattle.answer.specs.declared.Answer.{Answer}
-use Rattle.answer.specs.declared.Answer.TheVariants.{Done, Refused}
+use Rattle.std.specs.Prelude.{Ok, Err}
+use Rattle.answer.specs.declared.Refusal.{Refusal}
+use Rattle.answer.specs.Answers.{Answer}
 use Rattle.answer.specs.Fronts.{over}
 use Rattle.answer.proofs.Over.{take-over, length_over, kept, made}
 use Rattle.netlist.specs.Net.{Net, values, eval}
@@ -75,12 +76,12 @@ pub record Call : Type 0 where
   pub out : List ℕ
 
 -- a refusal changes nothing
-pub unchanged : (q : Call) {r : Answer} {x y z : ℕ}
-    → r ≡ score_answer q.inst q.m q.key q.rec q.idx q.wh q.score (rooms_of q.enc q.net q.glued q.inp q.vals q.out) → r ≡ Refused x y z
+pub unchanged : (q : Call) {r : Answer} {e : Refusal}
+    → r ≡ score_answer q.inst q.m q.key q.rec q.idx q.wh q.score (rooms_of q.enc q.net q.glued q.inp q.vals q.out) → r ≡ Err e
     → Scored q.inst q.m q.key q.rec q.idx q.wh q.score q.enc q.net q.glued q.inp q.vals q.out r q.enc q.net q.glued q.inp q.vals q.out
-unchanged q e h =
+unchanged q d h =
     record {
-      answered = e;
+      answered = d;
       enciphers = kept _ q.enc h;
       emits = kept _ q.net h;
       glues = kept _ q.glued h;
@@ -89,7 +90,7 @@ unchanged q e h =
       scores = kept _ q.out h;
     }
 
-module _ (q : Call) (done : score_answer q.inst q.m q.key q.rec q.idx q.wh q.score (rooms_of q.enc q.net q.glued q.inp q.vals q.out) ≡ Done) where
+module _ (q : Call) (done : score_answer q.inst q.m q.key q.rec q.idx q.wh q.score (rooms_of q.enc q.net q.glued q.inp q.vals q.out) ≡ Ok tt) where
   -- what the steps make
   abbrev E : List ℕ
   E = sealed q.inst q.m q.key q.rec q.idx q.wh
@@ -207,7 +208,7 @@ module _ (q : Call) (done : score_answer q.inst q.m q.key q.rec q.idx q.wh q.sco
       pub scored : {vals' out' : List ℕ}
           → vals' ≡ over (values (net_of (front glued')) (take (key_bits q.inst + q.m) inp')) q.vals
           → out' ≡ over (eval (net_of (front glued')) (take (key_bits q.inst + q.m) inp')) q.out
-          → Scored q.inst q.m q.key q.rec q.idx q.wh q.score q.enc q.net q.glued q.inp q.vals q.out Done enc' net' glued' inp' vals' out'
+          → Scored q.inst q.m q.key q.rec q.idx q.wh q.score q.enc q.net q.glued q.inp q.vals q.out (Ok tt) enc' net' glued' inp' vals' out'
       scored v o =
           record {
             answered = sym done;

@@ -1,18 +1,20 @@
 -- Inner: only contracts of private functions cite this. What the judges and the writers of the path speak of.
-use Rattle.std.specs.Prelude.{ℕ, List, take, eqb}
-use Rattle.answer.specs.declared.Answer.{Answer}
-use Rattle.answer.specs.declared.Answer.TheVariants.{Done, Refused}
-use Rattle.answer.specs.Answers.{◌▹◌}
+use Rattle.std.specs.Prelude.{ℕ, List, take, eqb, Err, Ok}
+use Rattle.answer.specs.declared.Refusal.{Refusal}
+use Rattle.answer.specs.Answers.{Answer, ◌▹◌}
 use Rattle.answer.specs.Judges.{length_answer}
 use Rattle.answer.specs.Choose.{choose}
 use Rattle.netlist.specs.Words.{counts_of, word_count}
 use Rattle.instance.specs.Judging.{numbers_answer, wiring_lengths}
 use Rattle.instance.specs.Keys.{key_length_answer}
 
--- an answer whose list from is counted as to
+-- a refusal whose list from is counted as to, and an answer so
+abbrev pub renamed : ℕ → ℕ → Refusal → Refusal
+renamed from to e = record { reason = e.reason; list = choose (eqb e.list from) to e.list; place = e.place }
+
 unfoldable pub renamed_to : ℕ → ℕ → Answer → Answer
-renamed_to from to Done = Done
-renamed_to from to (Refused number list place) = Refused number (choose (eqb list from) to list) place
+renamed_to from to (Ok _) = Ok tt
+renamed_to from to (Err e) = Err (renamed from to e)
 
 -- 1, 2, and 3 on the four lists that enciphering takes, of these lengths
 unfoldable pub sizes_answer : ℕ → ℕ → ℕ → ℕ → ℕ → ℕ → Answer

@@ -1,8 +1,8 @@
 -- What the call of the whole path answers and leaves. Lists: key 1, record 2, indices 3, whitening or IV 4, scoring netlist 5;
 -- enciphered record 6, deciphering netlist 7, glued netlist 8, inputs 9, wires 10, scores 11.
+use Rattle.answer.specs.declared.Reason.TheVariants.{Fit, Gates}
 use Rattle.std.specs.Prelude.{ℕ, ◌+◌, ◌≡◌, not, List, ◌++◌, length, ltb, eqb}
-use Rattle.answer.specs.declared.Answer.{Answer}
-use Rattle.answer.specs.Answers.{◌▹◌, refuse}
+use Rattle.answer.specs.Answers.{Answer, ◌▹◌, refuse}
 use Rattle.answer.specs.Fronts.{left}
 use Rattle.netlist.specs.Net.{values, eval}
 use Rattle.netlist.specs.Words.{inputs_of, gates_of, outputs_of, words, net_of}
@@ -45,8 +45,8 @@ unfoldable pub results_answer : ℕ → ℕ → List ℕ → List ℕ → Rooms 
 results_answer inst m a b lent =
     net_answer 5 b
     ▹ rooms_answer inst m a b lent
-    ▹ refuse 10 0 0 (not (eqb m (inputs_of b)))
-    ▹ refuse 11 0 0 (ltb gate_limit (gates_of a + gates_of b))
+    ▹ refuse Fit 0 0 (not (eqb m (inputs_of b)))
+    ▹ refuse Gates 0 0 (ltb gate_limit (gates_of a + gates_of b))
 
 -- 1 to 7, which are what enciphering answers where there is room for m bits; then these
 unfoldable pub score_answer : ℕ → ℕ → List ℕ → List ℕ → List ℕ → List ℕ → List ℕ → Rooms → Answer

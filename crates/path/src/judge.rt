@@ -1,164 +1,127 @@
 // What score is lent, judged before anything is written: 1 to 7 as enciphering judges them, 9 of the scoring netlist, 8 on
 // each result, 10 and 11.
+#![tactic(auto, using(answer::proofs::Rows::stop, answer::proofs::Rows::go))]
+
 ghost use Rattle.std.specs.Prelude.{◌≡◌, not, List, ℕ, ◌≤◌, length, ltb, eqb};
+ghost use Rattle.answer.specs.declared.Reason.{Reason};
 ghost use Rattle.answer.specs.Answers.{◌▹◌, refuse};
 ghost use Rattle.answer.specs.Bits.{bits_answer};
 ghost use Rattle.netlist.specs.Words.{gates_of};
 ghost use Rattle.netlist.specs.Check.{gate_limit};
 ghost use Rattle.answer.specs.Judges.{room_answer};
 ghost use Rattle.instance.specs.Keys.{key_bits_answer};
+ghost use Rattle.emit.specs.Emit.{wiring_answer, decipher_net, sized_by};
 ghost use Rattle.path.specs.Path.{results_answer, score_answer};
-ghost use Rattle.path.specs.Inner.{renamed_to, sizes_answer};
+ghost use Rattle.path.specs.Inner.{renamed, renamed_to, sizes_answer};
 
-use crate::Rooms;
-use answer::Answer;
+use crate::{Call, Rooms};
+use answer::{Answer, Reason, Refusal};
+use emit::Size;
 use netlist::{GATE_LIMIT, GATE_STRIDE, HEADER_WORDS};
 
-// The first answer, or if that is done the second.
-fn first(a: Answer, b: Answer) -> Answer
-    ensures { result ≡ a ▹ b }
+// A refusal of a call, in which the list that it counts as `from` is counted as `to` here.
+fn renamed(e: Refusal, from: u32, to: u32) -> Refusal
+    ensures { result ≡ renamed from to e }
 {
-    let Answer::Done = a else {
-        return a;
-    };
-    b
-}
-
-// An answer of a call, in which the list that it counts as `from` is counted as `to` here.
-fn renamed(answer: Answer, from: u32, to: u32) -> Answer
-    ensures { result ≡ renamed_to from to answer }
-{
-    match answer {
-        Answer::Done => answer,
-        Answer::Refused {
-            number,
-            list,
-            place,
-        } => Answer::Refused {
-            number,
-            list: if list == from { to } else { list },
-            place,
-        },
+    Refusal {
+        list: if e.list == from { to } else { e.list },
+        ..e
     }
 }
 
-// 1, 2, and 3 on the four lists that enciphering takes, of these lengths.
-fn sizes(
-    instance: u32,
-    m: u32,
-    key: usize,
-    record: usize,
-    indices: usize,
-    whitening: usize,
-) -> Answer
-    ensures { result ≡ sizes_answer instance m key «record» indices whitening }
+// 1, 2, and 3 on the lengths of the four lists that enciphering takes.
+#[tactic(auto, using(answer::proofs::Rows::stop, answer::proofs::Rows::go), unfolding(crate::specs::Inner::sizes_answer))]
+fn sizes(call: Call) -> Answer
+    ensures { result ≡ sizes_answer call.entry.instance call.entry.m (length call.entry.key.now) (length call.entry.«record».now) (length call.entry.indices.now) (length call.entry.whitening.now) }
 {
-    let k = instance::key_length(instance, key, 1);
-    let r = answer::exact(record, m as usize, 2);
-    let w = instance::wiring_lengths(instance, m, indices, whitening, 3);
-    first(instance::numbers(instance, m), first(k, first(r, w)))
+    instance::numbers(call.instance, call.m)?;
+    instance::key_length(call.instance, call.key.len(), 1)?;
+    answer::exact(call.record.len(), call.m as usize, 2)?;
+    instance::wiring_lengths(
+        call.instance,
+        call.m,
+        call.indices.len(),
+        call.whitening.len(),
+        3,
+    )
 }
 
 // 4 on the key and the record.
-fn bits(instance: u32, key: &[u8], record: &[u8]) -> Answer
-    ensures { result ≡ key_bits_answer 1 instance key.now ▹ bits_answer 2 «record».now }
+fn bits(call: Call) -> Answer
+    ensures { result ≡ key_bits_answer 1 call.entry.instance call.entry.key.now ▹ bits_answer 2 call.entry.«record».now }
 {
-    let k = instance::key_bits(instance, key, 1);
-    let r = answer::bits(record, 2);
-    first(k, r)
+    instance::key_bits(call.instance, call.key, 1)?;
+    answer::bits(call.record, 2)
 }
 
 // 8 on each result.
 fn room(lent: Rooms, needed: Rooms) -> Answer
     ensures { result ≡ room_answer 6 lent.enciphered needed.enciphered ▹ room_answer 7 lent.deciphering needed.deciphering ▹ room_answer 8 lent.glued needed.glued ▹ room_answer 9 lent.inputs needed.inputs ▹ room_answer 10 lent.wires needed.wires ▹ room_answer 11 lent.scores needed.scores }
 {
-    let e = answer::room(lent.enciphered, needed.enciphered, 6);
-    let d = answer::room(lent.deciphering, needed.deciphering, 7);
-    let g = answer::room(lent.glued, needed.glued, 8);
-    let i = answer::room(lent.inputs, needed.inputs, 9);
-    let w = answer::room(lent.wires, needed.wires, 10);
-    let s = answer::room(lent.scores, needed.scores, 11);
-    first(e, first(d, first(g, first(i, first(w, s)))))
+    answer::room(lent.enciphered, needed.enciphered, 6)?;
+    answer::room(lent.deciphering, needed.deciphering, 7)?;
+    answer::room(lent.glued, needed.glued, 8)?;
+    answer::room(lent.inputs, needed.inputs, 9)?;
+    answer::room(lent.wires, needed.wires, 10)?;
+    answer::room(lent.scores, needed.scores, 11)
 }
 
 // 10 and 11: the scoring netlist has so many inputs, both netlists together so many gates.
+#[tactic(auto, using(answer::proofs::Rows::stop, answer::proofs::Rows::go), unfolding(answer::specs::Answers::refuse))]
 fn fit(m: u32, inputs: u32, gates: usize) -> Answer
-    ensures { result ≡ refuse 10 0 0 (not (eqb m inputs)) ▹ refuse 11 0 0 (ltb gate_limit gates) }
+    ensures { result ≡ refuse Reason.Fit 0 0 (not (eqb m inputs)) ▹ refuse Reason.Gates 0 0 (ltb gate_limit gates) }
 {
     if m != inputs {
-        return answer::refused(answer::FIT, 0, 0);
+        return answer::refused(Reason::Fit, 0, 0);
     }
     if (GATE_LIMIT as usize) < gates {
-        return answer::refused(answer::GATES, 0, 0);
+        return answer::refused(Reason::Gates, 0, 0);
     }
-    Answer::Done
+    Ok(())
 }
 
-// 9, 8, 10 and 11, where the deciphering netlist has so many gates and words. What a broken scoring netlist would need does
-// not matter: 9 comes first.
-fn results(
-    instance: u32,
-    m: u32,
-    gates: usize,
-    words: usize,
-    scoring: &[u32],
-    lent: Rooms,
-) -> Answer
-    requires { gates ≤ gate_limit }
-    ensures { (a : List ℕ) → gates ≡ gates_of a → words ≡ length a → result ≡ results_answer instance m a scoring.now lent }
+// 9, 8, 10 and 11, where the deciphering netlist has this size. A broken scoring netlist does not say what it would need: 9
+// comes first.
+fn results(call: Call, size: Size, lent: Rooms) -> Answer
+    requires { size.gates ≤ gate_limit }
+    ensures { (a : List ℕ) → size.gates ≡ gates_of a → size.words ≡ length a → result ≡ results_answer call.entry.instance call.entry.m a call.entry.scoring.now lent }
 {
-    let sizes = instance::sizes_of(instance);
-    let inputs = sizes.key + m as usize;
-    let counts = netlist::counts::counts_of(scoring);
-    let both = gates + counts.gates as usize;
+    netlist::check::check_as(call.scoring, 5)?;
+    let counts = netlist::counts::counts_of(call.scoring);
+    let sizes = instance::sizes_of(call.instance);
+    let inputs = sizes.key + call.m as usize;
+    let both = size.gates + counts.gates as usize;
     let outputs = counts.outputs as usize;
     let needed = Rooms {
-        enciphered: m as usize,
-        deciphering: words,
+        enciphered: call.m as usize,
+        deciphering: size.words,
         glued: HEADER_WORDS + GATE_STRIDE * both + outputs,
         inputs,
         wires: inputs + both,
         scores: outputs,
     };
-    let nine = netlist::check::check_as(scoring, 5);
-    let eight = room(lent, needed);
-    let last = fit(m, counts.inputs, both);
-    first(nine, first(eight, last))
+    room(lent, needed)?;
+    fit(call.m, counts.inputs, both)
 }
 
-// All of it. The wiring is judged by emit::decipher_size, whose lists 1 and 2 are 3 and 4 here.
-pub(crate) fn score(
-    instance: u32,
-    m: u32,
-    key: &[u8],
-    record: &[u8],
-    indices: &[u32],
-    whitening: &[u8],
-    scoring: &[u32],
-    lent: Rooms,
-) -> Answer
-    ensures { result ≡ score_answer instance m key.now «record».now indices.now whitening.now scoring.now lent }
+// 4 to 7 on the wiring, which emit::decipher_size judges: its lists 1 and 2 are 3 and 4 here.
+#[tactic(auto, unfolding(crate::specs::Inner::renamed_to, emit::specs::Emit::sized_by, answer::specs::Answers::giving))]
+fn decipher_size(call: Call) -> Result<Size, Refusal>
+    ensures { result ≡ sized_by (renamed_to 2 4 (renamed_to 1 3 (wiring_answer call.entry.instance call.entry.m call.entry.indices.now call.entry.whitening.now))) (decipher_net call.entry.instance call.entry.m call.entry.indices.now call.entry.whitening.now) }
 {
-    let r = sizes(
-        instance,
-        m,
-        key.len(),
-        record.len(),
-        indices.len(),
-        whitening.len(),
-    );
-    let Answer::Done = r else {
-        return r;
-    };
-    let s = bits(instance, key, record);
-    let Answer::Done = s else {
-        return s;
-    };
-    let size = emit::decipher_size(instance, m, indices, whitening);
-    let answer = size.answer;
-    let t = renamed(renamed(answer, 1, 3), 2, 4);
-    let Answer::Done = t else {
-        return t;
-    };
-    results(instance, m, size.gates, size.words, scoring, lent)
+    emit::decipher_size(call.instance, call.m, call.indices, call.whitening).map_err(|e| renamed(
+        renamed(e, 1, 3),
+        2,
+        4,
+    ))
+}
+
+// All of it.
+pub(crate) fn score(call: Call, lent: Rooms) -> Answer
+    ensures { result ≡ score_answer call.entry.instance call.entry.m call.entry.key.now call.entry.«record».now call.entry.indices.now call.entry.whitening.now call.entry.scoring.now lent }
+{
+    sizes(call)?;
+    bits(call)?;
+    let size = decipher_size(call)?;
+    results(call, size, lent)
 }

@@ -10,6 +10,18 @@ ghost use Rattle.path.specs.Path.{Scored};
 
 use answer::Answer;
 
+// What a call is lent to read.
+#[derive(Clone, Copy)]
+struct Call<'a> {
+    instance: u32,
+    m: u32,
+    key: &'a [u8],
+    record: &'a [u8],
+    indices: &'a [u32],
+    whitening: &'a [u8],
+    scoring: &'a [u32],
+}
+
 // How many places the results have, in their order: as lent, or as needed.
 #[derive(Clone, Copy)]
 struct Rooms {
@@ -23,7 +35,8 @@ struct Rooms {
 
 // Scores a record of m bits by way of its enciphered form. Lists: key 1, record 2, indices 3, whitening or IV 4, scoring
 // netlist 5; then the results: enciphered record 6, deciphering netlist 7, glued netlist 8, its inputs 9, its wires 10 and
-// the scores 11. All is judged before any result is written: a refusal changes nothing.
+// the scores 11. All is judged before any result is written: a refusal changes nothing. The lists stay parameters:
+// `probe_score` lends them to C.
 pub fn score(
     instance: u32,
     m: u32,
@@ -49,11 +62,7 @@ pub fn score(
         wires: wires.len(),
         scores: scores.len(),
     };
-    let r = judge::score(instance, m, key, record, indices, whitening, scoring, lent);
-    let Answer::Done = r else {
-        return r;
-    };
-    write::results(
+    let call = Call {
         instance,
         m,
         key,
@@ -61,12 +70,8 @@ pub fn score(
         indices,
         whitening,
         scoring,
-        enciphered,
-        deciphering,
-        glued,
-        inputs,
-        wires,
-        scores,
-    );
-    Answer::Done
+    };
+    judge::score(call, lent)?;
+    write::results(call, enciphered, deciphering, glued, inputs, wires, scores);
+    Ok(())
 }

@@ -10,26 +10,28 @@ use lib.Seq.{ext_get_or, get_or-append-add, get_or-take, get_or-drop, take-add, 
 use lib.Dec.{leb}
 use lib.Pow.{pow_mono}
 use borrow.Author.Tests.{le-leb, lt-leb, leb-false, eq-eqb}
-use borrow.Rule.Slice.PartMut.{put_mid}
+use Rattle.std.specs.Prelude.{Result, Err, Ok, ◌≢◌}
+use Rattle.std.proofs.lemmas.Nat.{pow_pos}
+use Rattle.std.proofs.Math.Nat.{div-eq_of_lt, lt-div-mul-add}
+use native.Mathlib.Decide.{dec_le}
+use Rattle.answer.specs.declared.Reason.TheVariants.{Length}
+use Rattle.answer.specs.Answers.{Answer, giving}
 use Rattle.kreyvium.specs.Words.{bit}
 use Rattle.kreyvium.proofs.Bits.{bit_small}
-use Rattle.answer.specs.declared.Answer.{Answer}
-use Rattle.answer.specs.declared.Answer.TheVariants.{Done, Refused}
 use Rattle.answer.specs.Choose.{choose}
 use Rattle.answer.specs.Fronts.{over, left}
-use Rattle.answer.proofs.Rows.{first_done, then_done, both, refuse_not}
-use Rattle.answer.proofs.Over.{length_over, take-over}
+use Rattle.answer.proofs.Rows.{first_done, then_done, both, refuse_not, given}
+use Rattle.answer.proofs.Over.{take-over}
 use Rattle.answer.specs.Judges.{length_answer}
 use Rattle.answer.proofs.Judges.{length_done, bits-within, bits_done, done_bits}
 use Rattle.filter.specs.Filter.{tab}
 use Rattle.filter.proofs.Tab.{tab-length, tab-at}
 use Rattle.port.specs.declared.Port.{Port}
-use Rattle.port.specs.declared.Made.{Made}
-use Rattle.port.specs.declared.Made.TheVariants as made
-use Rattle.port.specs.declared.Found.TheVariants as found
-use Rattle.port.specs.Bytes.{value_at, high_first}
+use Rattle.port.specs.declared.Field.{Field}
+use Rattle.port.specs.declared.Field.TheVariants.{Number, Admin, Link, Errors, Load}
+use Rattle.port.specs.Bytes.{value_at, high_first, BitList}
 use Rattle.port.specs.Layout.{port_with, bits_of, port_of, Fits, within, port_made, fields_answer, found_by, BitsWritten}
-use Rattle.port.proofs.Parts.{wrote_part, part_after}
+use Rattle.port.proofs.Parts.{lent, back, put_after}
 use Rattle.port.proofs.Digits.{digits_below, digits_field, binary_bit}
 
 -- ---- a field of any width at any place
@@ -108,20 +110,6 @@ field_back b p n h l e =
     high_at n x i k ∙ binary_bit b p n i (λ j m. h (p + j)) k ∙ sym (get_or-take n (drop p b) i 0 k ∙ get_or-drop p b i 0)))
     ∙ sym (take-add p n b)
 
--- For code: the part of a slice from n on, when it is lent, and the slice when the part is back.
-abbrev pub lent : ℕ → List ℕ → List ℕ
-lent n out = take (length out - n) (drop n out)
-
-abbrev pub back : ℕ → List ℕ → List ℕ → List ℕ
-back n out part = put_mid n (length out - n) out part
-
--- a field put behind a front
-field_put : (front old : List ℕ) (p n x : ℕ) {out part : List ℕ} → length front ≡ p → p ≤ length old → out ≡ over front old
-    → part ≡ over (high_first n x) (lent p out) → back p out part ≡ over (front ++ high_first n x) old
-field_put front old p n x {out} {part} e l o q =
-    let k : length out ≡ length old = ap length o ∙ length_over front old (omega arith) in
-    part_after front (high_first n x) old p e o (wrote_part p out (high_first n x) (omega arith) q)
-
 -- ---- the five fields
 
 module _ (p : Port) where
@@ -170,9 +158,9 @@ module _ (p : Port) where
       → back 40 (back 18 (back 17 (back 16 a b) c) d) e ≡ over (bits_of p) old
   unfolding bits_of
   all_put old a b c d e l i j k m n =
-      field_put front4 old 40 24 p.load length4 (omega arith)
-      (field_put front3 old 18 22 p.errors length3 (omega arith)
-      (field_put front2 old 17 1 p.link length2 (omega arith) (field_put front1 old 16 1 p.admin length1 (omega arith) i j) k)
+      put_after front4 _ old 40 length4 (omega arith)
+      (put_after front3 _ old 18 length3 (omega arith)
+      (put_after front2 _ old 17 length2 (omega arith) (put_after front1 _ old 16 length1 (omega arith) i j) k)
       m)
       n
 
@@ -226,81 +214,111 @@ module _ (b : List ℕ) (size : length b ≡ 64) (bits : (i : ℕ) → get_or b 
 
 -- ---- ports that are made
 
--- For code: a value too large for its field, one that fits.
-pub too_large : (f w x : ℕ) (m : Made) → 2 ^ w ≤ x → made.TooLarge f ≡ within f w x m
-unfolding within
-too_large f w x m h = rw (le-leb (2 ^ w) x h)
+-- For code: a value whose high bits are not all 0 is too large, another fits.
+module _ {X : Type 0} (f : Field) (w x : ℕ) (m : Result X Field) where
+  pub too_large : x / 2 ^ w ≢ 0 → Err f ≡ within f w x m
+  unfolding within
+  too_large h =
+      elim (dec_le (2 ^ w) x) [
+        | yes l ↦ rw (le-leb (2 ^ w) x l)
+        | no l ↦ absurd (h (div-eq_of_lt (omega arith)))
+      ]
 
-pub next : (f w x : ℕ) {r m : Made} → x < 2 ^ w → r ≡ m → r ≡ within f w x m
-unfolding within
-next f w x h e = rw (lt-leb (2 ^ w) x h) e
+  pub fitting : x < 2 ^ w → m ≡ within f w x m
+  unfolding within
+  fitting h = rw (lt-leb (2 ^ w) x h)
+
+  pub no_high : x / 2 ^ w ≡ 0 → m ≡ within f w x m
+  no_high e = fitting (omega (arith, rw e at (lt-div-mul-add {a = x} {b = 2 ^ w} (pow_pos w))))
+
+  -- where `?` passes the field on, and where it goes on
+  pub large_by : {r : Result (Unit {0}) Field} {s : Result X Field} {e : Field} → s ≡ Err e → r ≡ within f w x (Ok tt) → r ≡ Err e → s ≡ within f w x m
+  unfolding within
+  large_by {r} {s} {e} k i j = by (leb (2 ^ w) x) (sym j ∙ i)
+    where
+      by : (t : Bool) → ◌≡◌ {A = Result (Unit {0}) Field} (Err e) (choose t (Err f) (Ok tt)) → s ≡ choose t (Err f) m
+      by true i = cc
+      by false i = cc
+
+  pub next : {r : Result (Unit {0}) Field} {s : Result X Field} {u : Unit {0}} → r ≡ within f w x (Ok tt) → r ≡ Ok u → s ≡ m → s ≡ within f w x m
+  unfolding within
+  next {r} {s} {u} i j k = by (leb (2 ^ w) x) (sym j ∙ i)
+    where
+      by : (t : Bool) → ◌≡◌ {A = Result (Unit {0}) Field} (Ok u) (choose t (Err f) (Ok tt)) → s ≡ choose t (Err f) m
+      by true i = cc
+      by false i = k
 
 -- what a port that was made tells of a field
-within-fits : (f w x : ℕ) (m : Made) (p : Port) → within f w x m ≡ made.Fitting p → (x < 2 ^ w) × (m ≡ made.Fitting p)
+within-fits : (f : Field) (w x : ℕ) (m : Result Port Field) (p : Port) → within f w x m ≡ Ok p → (x < 2 ^ w) × (m ≡ Ok p)
 unfolding within
 within-fits f w x m p e = by (leb (2 ^ w) x) refl e
   where
-    by : (t : Bool) → leb (2 ^ w) x ≡ t → choose t (made.TooLarge f) m ≡ made.Fitting p → (x < 2 ^ w) × (m ≡ made.Fitting p)
-    by true h e = let z : ◌≡◌ {A = ℕ} 0 1 = cc in absurd (omega arith)
+    by : (t : Bool) → leb (2 ^ w) x ≡ t → choose t (Err f) m ≡ Ok p → (x < 2 ^ w) × (m ≡ Ok p)
+    by true h e = cc
     by false h e = (leb-false (2 ^ w) x h, e)
 
 -- A port is made exactly of values that fit, and holds them.
 module _ (number admin link errors load : ℕ) where
-  pub made_fits : (p : Port) → port_made number admin link errors load ≡ made.Fitting p → Fits p × (p ≡ port_with number admin link errors load)
+  pub made_fits : (p : Port) → port_made number admin link errors load ≡ Ok p → Fits p × (p ≡ port_with number admin link errors load)
   unfolding port_made
   made_fits p e =
-      let a = within-fits 1 16 number _ p e in
-      let b = within-fits 2 1 admin _ p a.1 in
-      let c = within-fits 3 1 link _ p b.1 in
-      let d = within-fits 4 22 errors _ p c.1 in
-      let q = within-fits 5 24 load _ p d.1 in
+      let a = within-fits Number 16 number _ p e in
+      let b = within-fits Admin 1 admin _ p a.1 in
+      let c = within-fits Link 1 link _ p b.1 in
+      let d = within-fits Errors 22 errors _ p c.1 in
+      let q = within-fits Load 24 load _ p d.1 in
       let same : p ≡ port_with number admin link errors load = cc q.1 in
       (rw same record { number = a.0; admin = b.0; link = c.0; errors = d.0; load = q.0 }, same)
 
-  pub fits_made : Fits (port_with number admin link errors load) → port_made number admin link errors load ≡ made.Fitting (port_with number admin link errors load)
+  pub fits_made : Fits (port_with number admin link errors load) → port_made number admin link errors load ≡ Ok (port_with number admin link errors load)
   unfolding port_made
   fits_made f =
-      sym (next 1 16 number f.number (next 2 1 admin f.admin (next 3 1 link f.link (next 4 22 errors f.errors (next 5 24 load f.load refl)))))
+      sym
+      (fitting Load 24 load _ f.load
+      ∙ fitting Errors 22 errors _ f.errors
+      ∙ fitting Link 1 link _ f.link
+      ∙ fitting Admin 1 admin _ f.admin
+      ∙ fitting Number 16 number _ f.number)
 
 -- ---- the calls
 
 -- a list of bits is accepted exactly if it is one of 64 bits
-pub fields_done : (b : List ℕ) → fields_answer b ≡ Done → (length b ≡ 64) × ((i : ℕ) → get_or b i 0 ≤ 1)
+pub fields_done : (b : List ℕ) → fields_answer b ≡ Ok tt → (length b ≡ 64) × ((i : ℕ) → get_or b i 0 ≤ 1)
 unfolding fields_answer
 fields_done b e = (length_done 1 (length b) 64 (first_done _ _ e), bits-within b (bits_done 1 b (then_done _ _ e)))
 
-pub done_fields : (b : List ℕ) → length b ≡ 64 → ((i : ℕ) → get_or b i 0 ≤ 1) → fields_answer b ≡ Done
+pub done_fields : (b : List ℕ) → length b ≡ 64 → ((i : ℕ) → get_or b i 0 ≤ 1) → fields_answer b ≡ Ok tt
 unfolding fields_answer length_answer
-done_fields b e h = both (refuse_not 3 1 (length b) (ap not (eq-eqb (length b) 64 e))) (done_bits 1 b (λ k l. h k))
+done_fields b e h = both (refuse_not Length 1 (length b) (ap not (eq-eqb (length b) 64 e))) (done_bits 1 b (λ k l. h k))
 
--- For code: bits that are refused, bits whose port is found.
-pub found_stop : {a r : Answer} {x y z : ℕ} (p : Port) → r ≡ a → r ≡ Refused x y z → found.Refused x y z ≡ found_by a p
-unfolding found_by
-found_stop p e h = rw (← e, h)
+-- For code: bits that are accepted, and their port.
+pub fields_held : {b : List ℕ} {r : Answer} {u : Unit {0}} → r ≡ fields_answer b → r ≡ Ok u → BitList 64 b
+fields_held {b} e h = let d = fields_done b (sym e ∙ h) in record { size = d.0; bit = d.1 }
 
-pub found_go : {a r : Answer} {p q : Port} → r ≡ a → r ≡ Done → q ≡ p → found.Record q ≡ found_by a p
-unfolding found_by
+pub found_go : {a r : Answer} {p q : Port} → r ≡ a → r ≡ Ok tt → q ≡ p → Ok q ≡ found_by a p
+unfolding giving
 found_go e h k = rw (← e, h, k)
 
-found_record : (r : Answer) (q p : Port) → found_by r q ≡ found.Record p → (r ≡ Done) × (q ≡ p)
-unfolding found_by
-found_record Done q p e = (refl, cc)
-found_record (Refused n l k) q p e = let z : ◌≡◌ {A = ℕ} 0 1 = cc in absurd (omega arith)
+found_record : (r : Answer) (q p : Port) → found_by r q ≡ Ok p → (r ≡ Ok tt) × (q ≡ p)
+unfolding giving
+found_record (Ok _) q p e = (refl, cc)
+found_record (Err r) q p e = cc
 
 -- what `bits` leaves
-wrote : (p : Port) (out out' : List ℕ) → BitsWritten p out Done out' → take 64 out' ≡ bits_of p
+wrote : (p : Port) (out out' : List ℕ) → BitsWritten p out (Ok tt) out' → take 64 out' ≡ bits_of p
 unfolding left
 wrote p out out' w =
     ap (take 64) w.written ∙ ap (λ (n : ℕ). take n (over (bits_of p) out)) (sym (bits-length p)) ∙ take-over (bits_of p) out
 
 -- Handed to `fields` it is found as the port.
-pub fields_back : (p : Port) (out out' : List ℕ) → Fits p → BitsWritten p out Done out' → found_by (fields_answer (take 64 out')) (port_of (take 64 out')) ≡ found.Record p
+pub fields_back : (p : Port) (out out' : List ℕ) → Fits p → BitsWritten p out (Ok tt) out' → found_by (fields_answer (take 64 out')) (port_of (take 64 out')) ≡ Ok p
 fields_back p out out' f w =
     ap (λ (t : List ℕ). found_by (fields_answer t) (port_of t)) (wrote p out out' w)
-    ∙ sym (found_go refl (done_fields (bits_of p) (bits-length p) (bits_are_bits p)) (sym (fields_of_bits p f)))
+    ∙ ap (found_by (fields_answer (bits_of p))) (fields_of_bits p f)
+    ∙ sym (given p (done_fields (bits_of p) (bits-length p) (bits_are_bits p)))
 
 -- And a port that `fields` found in some bits is written as those bits.
-pub bits_back : (b : List ℕ) (p : Port) (out out' : List ℕ) → found_by (fields_answer b) (port_of b) ≡ found.Record p → BitsWritten p out Done out' → take 64 out' ≡ b
+pub bits_back : (b : List ℕ) (p : Port) (out out' : List ℕ) → found_by (fields_answer b) (port_of b) ≡ Ok p → BitsWritten p out (Ok tt) out' → take 64 out' ≡ b
 bits_back b p out out' e w =
     let r = found_record (fields_answer b) (port_of b) p e in
     let d = fields_done b r.0 in

@@ -2,17 +2,43 @@
 // 64 bits.
 #![tactic(auto)]
 
-ghost use Rattle.std.specs.Prelude.{◌≡◌, ℕ, ◌+◌, ◌<◌, ◌≤◌, length, get_or};
+ghost use Rattle.std.specs.Prelude.{◌≡◌, ◌+◌, ◌<◌, ◌≤◌, length, Ok};
 ghost use Rattle.answer.specs.Fronts.{over};
-ghost use Rattle.port.specs.Bytes.{value_at, high_first};
-ghost use Rattle.port.specs.Layout.{bits_of, port_of, port_made, fields_answer, found_by, BitsWritten};
+ghost use Rattle.port.specs.Bytes.{value_at, high_first, BitList};
+ghost use Rattle.port.specs.Layout.{field_number, within, bits_of, port_of, port_made, fields_answer, found_by, BitsWritten};
 
-use answer::Answer;
+use answer::{Answer, Refusal};
 
 pub const RECORD_BITS: usize = 64;
 
-// Made by `new` and `fields` alone, so that each value has room in its field.
-#[derive(Clone, Copy)]
+// A port's fields, in their order.
+#[derive(Clone, Copy, Debug, PartialEq, Eq)]
+pub enum Field {
+    Number,
+    Admin,
+    Link,
+    Errors,
+    Load,
+}
+
+// A field's place, counted from 1.
+impl From<Field> for u32 {
+    ghost from_gives = { λ field n. n ≡ field_number field };
+
+    fn from(field: Field) -> u32 {
+        match field {
+            Field::Number => 1,
+            Field::Admin => 2,
+            Field::Link => 3,
+            Field::Errors => 4,
+            Field::Load => 5,
+        }
+    }
+}
+
+// Made by `new` and `fields` alone, so that each value has room in its field. That is no ghost field: `port_of` and
+// `port_made` would have to prove it of the numbers that they are given.
+#[derive(Clone, Copy, Debug, PartialEq, Eq)]
 pub struct Port {
     number: u32,
     admin: u32,
@@ -21,45 +47,31 @@ pub struct Port {
     load: u32,
 }
 
-// A port, or the first field, counted from 1, whose value is too large for it.
-#[derive(Clone, Copy)]
-pub enum Made {
-    Fitting(Port),
-    TooLarge(u32),
-}
-
-// The port of 64 bits, or why there is none.
-#[derive(Clone, Copy)]
-pub enum Found {
-    Record(Port),
-    Refused {
-        number: u32,
-        list: u32,
-        place: usize,
-    },
+// Refuses a value that is too large for its field.
+#[tactic(auto, using(crate::proofs::Layouts::too_large, crate::proofs::Layouts::no_high))]
+fn room(field: Field, width: u32, x: u32) -> Result<(), Field>
+    requires { width < 32 }
+    ensures { result ≡ within field width x (Ok tt) }
+{
+    if x >> width != 0 {
+        return Err(field);
+    }
+    Ok(())
 }
 
 impl Port {
-    // The port's number below 65,536, admin up and link up 0 or 1, errors below 4,194,304, load below 16,777,216.
-    pub fn new(number: u32, admin: u32, link: u32, errors: u32, load: u32) -> Made
+    // The port's number below 65,536, admin up and link up 0 or 1, errors below 4,194,304, load below 16,777,216; or the
+    // first field whose value is too large for it.
+    #[tactic(auto, using(crate::proofs::Layouts::large_by, crate::proofs::Layouts::next), unfolding(crate::specs::Layout::port_made))]
+    pub fn new(number: u32, admin: u32, link: u32, errors: u32, load: u32) -> Result<Port, Field>
         ensures { result ≡ port_made number admin link errors load }
     {
-        if 65536 <= number {
-            return Made::TooLarge(1);
-        }
-        if 2 <= admin {
-            return Made::TooLarge(2);
-        }
-        if 2 <= link {
-            return Made::TooLarge(3);
-        }
-        if 4194304 <= errors {
-            return Made::TooLarge(4);
-        }
-        if 16777216 <= load {
-            return Made::TooLarge(5);
-        }
-        Made::Fitting(Port {
+        room(Field::Number, 16, number)?;
+        room(Field::Admin, 1, admin)?;
+        room(Field::Link, 1, link)?;
+        room(Field::Errors, 22, errors)?;
+        room(Field::Load, 24, load)?;
+        Ok(Port {
             number,
             admin,
             link,
@@ -97,24 +109,29 @@ impl Port {
     {
         self.load
     }
+
+    fn put_fields(self, out: &mut [u8])
+        requires { 64 ≤ length out.old }
+        ensures { out.new ≡ over (bits_of self) out.old }
+    {
+        put_number(self.number, 16, out);
+        put_number(self.admin, 1, &mut out[16..]);
+        put_number(self.link, 1, &mut out[17..]);
+        put_number(self.errors, 22, &mut out[18..]);
+        put_number(self.load, 24, &mut out[40..]);
+    }
 }
 
-fn wide(x: u8) -> u32
-    ensures { (result ≡ x) × (result < 256) }
-{
-    x as u32
-}
-
-// The number that n bits from a place on make.
+// The number that n of the 64 bits make, from a place on.
 fn number_at(s: &[u8], at: usize, n: usize) -> u32
-    requires { (n ≤ 24) × (at + n ≤ length s.now) × ((i : ℕ) → get_or s.now i 0 ≤ 1) }
+    requires few { n ≤ 24 }
+    requires within { at + n ≤ 64 }
+    requires held { BitList 64 s.now }
     ensures { result ≡ value_at 2 s.now at n }
 {
     let mut x: u32 = 0;
-    let mut i: usize = 0;
-    while i < n {
-        x = x * 2 + wide(s[at + i]);
-        i += 1;
+    for i in 0..n {
+        x = x * 2 + u32::from(s[at + i]);
     }
     x
 }
@@ -124,67 +141,39 @@ fn put_number(x: u32, n: usize, out: &mut [u8])
     requires { (n ≤ 24) × (n ≤ length out.old) }
     ensures { out.new ≡ over (high_first n x) out.old }
 {
-    let mut i: usize = 0;
-    while i < n {
-        out[i] = ((x >> ((n - 1 - i) as u32)) % 2) as u8;
-        i += 1;
+    for i in 0..n {
+        out[i] = ((x >> (n - 1 - i)) % 2) as u8;
     }
 }
 
+#[tactic(auto, using(answer::proofs::Rows::stop, answer::proofs::Rows::stop_by, answer::proofs::Rows::go), unfolding(crate::specs::Layout::fields_answer))]
 fn judge(s: &[u8]) -> Answer
     ensures { result ≡ fields_answer s.now }
 {
-    let r = answer::exact(s.len(), RECORD_BITS, 1);
-    let Answer::Done = r else {
-        return r;
-    };
+    answer::exact(s.len(), RECORD_BITS, 1)?;
     answer::bits(s, 1)
 }
 
 // The fields that 64 bits hold.
-pub fn fields(bits: &[u8]) -> Found
+#[tactic(auto, using(crate::proofs::Layouts::fields_held))]
+pub fn fields(bits: &[u8]) -> Result<Port, Refusal>
     ensures { result ≡ found_by (fields_answer bits.now) (port_of bits.now) }
 {
-    let r = judge(bits);
-    match r {
-        Answer::Refused {
-            number,
-            list,
-            place,
-        } => Found::Refused {
-            number,
-            list,
-            place,
-        },
-        Answer::Done => Found::Record(Port {
-            number: number_at(bits, 0, 16),
-            admin: number_at(bits, 16, 1),
-            link: number_at(bits, 17, 1),
-            errors: number_at(bits, 18, 22),
-            load: number_at(bits, 40, 24),
-        }),
-    }
-}
-
-fn put_fields(port: Port, out: &mut [u8])
-    requires { 64 ≤ length out.old }
-    ensures { out.new ≡ over (bits_of port) out.old }
-{
-    put_number(port.number, 16, out);
-    put_number(port.admin, 1, &mut out[16..]);
-    put_number(port.link, 1, &mut out[17..]);
-    put_number(port.errors, 22, &mut out[18..]);
-    put_number(port.load, 24, &mut out[40..]);
+    judge(bits)?;
+    Ok(Port {
+        number: number_at(bits, 0, 16),
+        admin: number_at(bits, 16, 1),
+        link: number_at(bits, 17, 1),
+        errors: number_at(bits, 18, 22),
+        load: number_at(bits, 40, 24),
+    })
 }
 
 // The 64 bits of a port's fields.
 pub fn bits(port: Port, res: &mut [u8]) -> Answer
     ensures { BitsWritten port res.old result res.new }
 {
-    let r = answer::room(res.len(), RECORD_BITS, 1);
-    let Answer::Done = r else {
-        return r;
-    };
-    put_fields(port, res);
-    Answer::Done
+    answer::room(res.len(), RECORD_BITS, 1)?;
+    port.put_fields(res);
+    Ok(())
 }

@@ -1,7 +1,7 @@
 -- What an exported call returns and leaves: the call's own outcome, its answer as number, list and place.
-use Rattle.std.specs.Prelude.{ℕ, ◌≡◌, List, length}
-use Rattle.answer.specs.declared.Answer.{Answer}
-use Rattle.answer.specs.Answers.{number_of, list_of, place_of}
+use Rattle.std.specs.Prelude.{ℕ, ◌≡◌, List, length, Result, Ok, Err}
+use Rattle.answer.specs.declared.Refusal.{Refusal}
+use Rattle.answer.specs.Answers.{Answer, reason_number, number_of, list_of, place_of}
 use Rattle.answer.specs.Fronts.{left}
 use Rattle.answer.specs.Judges.{room_answer}
 use Rattle.evaluate.specs.Evaluate.{Evaluated}
@@ -17,13 +17,10 @@ use Rattle.emit.specs.declared.Size.{Size}
 use Rattle.path.specs.Path.{Scored}
 use Rattle.records.specs.declared.form.Form.TheVariants.{Full}
 use Rattle.file.specs.File.{ReadAs, WrittenAs}
-use Rattle.text.specs.declared.Printing.{Printing}
 use Rattle.text.specs.Text.{Printed}
-use Rattle.port.specs.declared.Made.{Made}
-use Rattle.port.specs.declared.Made.TheVariants.{Fitting, TooLarge}
-use Rattle.port.specs.declared.Found.{Found}
-use Rattle.port.specs.declared.Found.TheVariants as found
-use Rattle.port.specs.Layout.{bits_of}
+use Rattle.port.specs.declared.Field.{Field}
+use Rattle.port.specs.declared.Port.{Port}
+use Rattle.port.specs.Layout.{field_number, bits_of}
 use Rattle.frames.specs.Frames.{Appended, AppendedAfter, FramesRead}
 use Rattle.probe.specs.declared.Reply.{Reply}
 use Rattle.probe.specs.declared.Metering.{Metering}
@@ -74,14 +71,9 @@ pub record CipherReply (inst m : ℕ) (key rec idx wh out : List ℕ) (r : Reply
   pub outcome : Ciphered inst m key rec idx wh out answer out'
   pub told : r ≡ reply_of answer
 
-unfoldable pub sizing_of : Size → Sizing
-sizing_of s = record {
-  number = number_of s.answer;
-  list = list_of s.answer;
-  place = place_of s.answer;
-  gates = s.gates;
-  words = s.words;
-}
+unfoldable pub sizing_of : Result Size Refusal → Sizing
+sizing_of (Ok s) = record { number = 0; list = 0; place = 0; gates = s.gates; words = s.words }
+sizing_of (Err e) = record { number = reason_number e.reason; list = e.list; place = e.place; gates = 0; words = 0 }
 
 -- a call of emission that was due this answer, of this netlist
 pub record EmitReply (due : Answer) (net : Net) (out : List ℕ) (r : Reply) (out' : List ℕ) : Type 0 where
@@ -104,18 +96,14 @@ pub record WriteReply (net out : List ℕ) (r : Reply) (out' : List ℕ) : Type 
   pub outcome : WrittenAs Full net out answer out'
   pub told : r ≡ reply_of answer
 
-unfoldable pub printout_of : Printing → Printout
-printout_of p = record {
-  number = number_of p.answer;
-  list = list_of p.answer;
-  place = place_of p.answer;
-  size = p.size;
-}
+unfoldable pub printout_of : Result ℕ Refusal → Printout
+printout_of (Ok n) = record { number = 0; list = 0; place = 0; size = n }
+printout_of (Err e) = record { number = reason_number e.reason; list = e.list; place = e.place; size = 0 }
 
 pub record PrintReply (input out : List ℕ) (r : Printout) (out' : List ℕ) : Type 0 where
-  pub printing : Printing
-  pub outcome : Printed input out printing out'
-  pub told : r ≡ printout_of printing
+  pub printed : Result ℕ Refusal
+  pub outcome : Printed input out printed out'
+  pub told : r ≡ printout_of printed
 
 pub record AppendReply (key rec iv s out : List ℕ) (r : Reply) (out' : List ℕ) : Type 0 where
   pub answer : Answer
@@ -133,8 +121,8 @@ pub record FramesReply (key s out : List ℕ) (r : Reply) (out' : List ℕ) : Ty
   pub told : r ≡ reply_of answer
 
 -- a port's fields, or the refusal
-unfoldable pub fielding_of : Found → Fielding
-fielding_of (found.Record p) = record {
+unfoldable pub fielding_of : Result Port Refusal → Fielding
+fielding_of (Ok p) = record {
   number = 0;
   list = 0;
   place = 0;
@@ -144,10 +132,10 @@ fielding_of (found.Record p) = record {
   errors = p.errors;
   load = p.load;
 }
-fielding_of (found.Refused number list place) = record {
-  number = number;
-  list = list;
-  place = place;
+fielding_of (Err e) = record {
+  number = reason_number e.reason;
+  list = e.list;
+  place = e.place;
   port = 0;
   admin = 0;
   link = 0;
@@ -156,15 +144,15 @@ fielding_of (found.Refused number list place) = record {
 }
 
 -- what writing the bits of a port answers, where n places are lent, and leaves; a value that is too large writes nothing
-unfoldable pub putting_of : Made → ℕ → Putting
-putting_of (TooLarge f) n = record { number = 0; list = 0; place = 0; field = f }
-putting_of (Fitting p) n = record {
+unfoldable pub putting_of : Result Port Field → ℕ → Putting
+putting_of (Err f) n = record { number = 0; list = 0; place = 0; field = field_number f }
+putting_of (Ok p) n = record {
   number = number_of (room_answer 1 n 64);
   list = list_of (room_answer 1 n 64);
   place = place_of (room_answer 1 n 64);
   field = 0;
 }
 
-unfoldable pub bits_left : Made → List ℕ → List ℕ
-bits_left (TooLarge f) out = out
-bits_left (Fitting p) out = left (room_answer 1 (length out) 64) (bits_of p) out
+unfoldable pub bits_left : Result Port Field → List ℕ → List ℕ
+bits_left (Err f) out = out
+bits_left (Ok p) out = left (room_answer 1 (length out) 64) (bits_of p) out

@@ -1,5 +1,5 @@
 // The public calls, exported for the tests and the demonstration. Lists pass as a pointer and a length, an answer as its
-// number, list and place: 0, 0, 0 for done.
+// number, list and place: 0, 0, 0 for done. The structs stand as C reads them, so those three are repeated in each.
 #![tactic(auto)]
 
 ghost use Rattle.std.specs.Prelude.{◌≡◌, length};
@@ -12,11 +12,10 @@ ghost use Rattle.port.specs.Layout.{port_of, port_made, fields_answer, found_by}
 ghost use Rattle.sequence.specs.Files.{file_answer};
 ghost use Rattle.probe.specs.Replies.{reply_of, metering_of, sizing_of, EvaluateReply, MeterReply, GlueReply, ChooseReply, KeystreamReply, CipherReply, EmitReply, ScoreReply, ReadReply, WriteReply, printout_of, PrintReply, AppendReply, AppendAfterReply, FramesReply, fielding_of, putting_of, bits_left};
 
-use answer::Answer;
+use answer::{Answer, Refusal};
 use emit::Size;
 use meter::{Level, Metered};
-use port::{Found, Made, Port};
-use text::Printing;
+use port::{Field, Port};
 
 #[repr(C)]
 #[derive(Clone, Copy)]
@@ -81,70 +80,70 @@ pub struct Putting {
     pub field: u32,
 }
 
-fn told(answer: Answer) -> Reply
-    ensures { result ≡ reply_of answer }
-{
-    match answer {
-        Answer::Done => Reply {
-            number: 0,
-            list: 0,
-            place: 0,
-        },
-        Answer::Refused {
-            number,
-            list,
-            place,
-        } => Reply {
-            number,
-            list,
-            place,
-        },
+impl From<Answer> for Reply {
+    ghost from_gives = { λ answer reply. reply ≡ reply_of answer };
+
+    #[tactic(auto, unfolding(crate::specs::Replies::reply_of))]
+    fn from(answer: Answer) -> Reply {
+        match answer {
+            Ok(()) => Reply {
+                number: 0,
+                list: 0,
+                place: 0,
+            },
+            Err(e) => Reply {
+                number: u32::from(e.reason),
+                list: e.list,
+                place: e.place,
+            },
+        }
     }
 }
 
 pub fn probe_check(net: &[u32]) -> Reply
     ensures { result ≡ reply_of (net_answer 1 net.now) }
 {
-    told(netlist::check::check(net))
+    netlist::check::check(net).into()
 }
 
 pub fn probe_evaluate(net: &[u32], inputs: &[u8], values: &mut [u8], outputs: &mut [u8]) -> Reply
     ensures { EvaluateReply net.now inputs.now values.old outputs.old result values.new outputs.new }
 {
-    told(evaluate::evaluate(net, inputs, values, outputs))
+    evaluate::evaluate(net, inputs, values, outputs).into()
 }
 
-fn metering_of(metered: Metered) -> Metering
-    ensures { result ≡ metering_of metered }
-{
-    let answer = metered.answer;
-    let r = told(answer);
-    Metering {
-        number: r.number,
-        list: r.list,
-        place: r.place,
-        depth: metered.depth,
-        multiplications: metered.multiplications,
+impl From<Metered> for Metering {
+    ghost from_gives = { λ metered metering. metering ≡ metering_of metered };
+
+    #[tactic(auto, unfolding(crate::specs::Replies::reply_of, crate::specs::Replies::metering_of))]
+    fn from(metered: Metered) -> Metering {
+        let r = Reply::from(metered.answer);
+        Metering {
+            number: r.number,
+            list: r.list,
+            place: r.place,
+            depth: metered.depth,
+            multiplications: metered.multiplications,
+        }
     }
 }
 
 pub fn probe_meter(net: &[u32], depths: &mut [u32], levels: &mut [Level]) -> Metering
     ensures { MeterReply net.now depths.old levels.old result depths.new levels.new }
 {
-    let m = meter::meter(net, depths, levels);
-    metering_of(m)
+    meter::meter(net, depths, levels).into()
 }
 
 pub fn probe_glue(first: &[u32], second: &[u32], out: &mut [u32]) -> Reply
     ensures { GlueReply first.now second.now out.old result out.new }
 {
-    told(glue::glue(first, second, out))
+    glue::glue(first, second, out).into()
 }
 
 pub fn probe_choose(instance: u32, draws: &[u32], row: &mut [u32]) -> Reply
     ensures { ChooseReply instance draws.now row.old result row.new }
 {
-    told(choice::choose(instance, draws, row))
+    choice::choose(instance, draws, row).into()
 }
 
 pub fn probe_keystream(
@@ -157,7 +156,7 @@ pub fn probe_keystream(
 ) -> Reply
     ensures { KeystreamReply instance m key.now indices.now whitening.now res.old result res.new }
 {
-    told(cipher::keystream(instance, m, key, indices, whitening, res))
+    cipher::keystream(instance, m, key, indices, whitening, res).into()
 }
 
 pub fn probe_encipher(
@@ -171,7 +170,7 @@ pub fn probe_encipher(
 ) -> Reply
     ensures { CipherReply instance m key.now «record».now indices.now whitening.now res.old result res.new }
 {
-    told(cipher::encipher(instance, m, key, record, indices, whitening, res))
+    cipher::encipher(instance, m, key, record, indices, whitening, res).into()
 }
 
 pub fn probe_decipher(
@@ -185,19 +184,19 @@ pub fn probe_decipher(
 ) -> Reply
     ensures { CipherReply instance m key.now «record».now indices.now whitening.now res.old result res.new }
 {
-    told(cipher::decipher(instance, m, key, record, indices, whitening, res))
+    cipher::decipher(instance, m, key, record, indices, whitening, res).into()
 }
 
 pub fn probe_emit_one_hot(n: u32, res: &mut [u32]) -> Reply
     ensures { EmitReply (one_hot_answer n (length res.old)) (one_hot_net n) res.old result res.new }
 {
-    told(emit::emit_one_hot(n, res))
+    emit::emit_one_hot(n, res).into()
 }
 
 pub fn probe_emit_threshold(d: u32, n: u32, res: &mut [u32]) -> Reply
     ensures { EmitReply (threshold_answer d n (length res.old)) (threshold_net d n) res.old result res.new }
 {
-    told(emit::emit_threshold(d, n, res))
+    emit::emit_threshold(d, n, res).into()
 }
 
 pub fn probe_emit_decipher(
@@ -209,27 +208,37 @@ pub fn probe_emit_decipher(
 ) -> Reply
     ensures { EmitReply (decipher_answer instance m indices.now whitening.now (length res.old)) (decipher_net instance m indices.now whitening.now) res.old result res.new }
 {
-    told(emit::emit_decipher(instance, m, indices, whitening, res))
+    emit::emit_decipher(instance, m, indices, whitening, res).into()
 }
 
-fn sizing_of(size: Size) -> Sizing
-    ensures { result ≡ sizing_of size }
-{
-    let answer = size.answer;
-    let reply = told(answer);
-    Sizing {
-        number: reply.number,
-        list: reply.list,
-        place: reply.place,
-        gates: size.gates,
-        words: size.words,
+impl From<Result<Size, Refusal>> for Sizing {
+    ghost from_gives = { λ sized sizing. sizing ≡ sizing_of sized };
+
+    #[tactic(auto, unfolding(crate::specs::Replies::sizing_of))]
+    fn from(sized: Result<Size, Refusal>) -> Sizing {
+        match sized {
+            Ok(size) => Sizing {
+                number: 0,
+                list: 0,
+                place: 0,
+                gates: size.gates,
+                words: size.words,
+            },
+            Err(e) => Sizing {
+                number: u32::from(e.reason),
+                list: e.list,
+                place: e.place,
+                gates: 0,
+                words: 0,
+            },
+        }
     }
 }
 
 pub fn probe_decipher_size(instance: u32, m: u32, indices: &[u32], whitening: &[u8]) -> Sizing
     ensures { result ≡ sizing_of (sized_by (wiring_answer instance m indices.now whitening.now) (decipher_net instance m indices.now whitening.now)) }
 {
-    sizing_of(emit::decipher_size(instance, m, indices, whitening))
+    emit::decipher_size(instance, m, indices, whitening).into()
 }
 
 pub fn probe_score(
@@ -249,7 +258,7 @@ pub fn probe_score(
 ) -> Reply
     ensures { ScoreReply instance m key.now «record».now indices.now whitening.now scoring.now enciphered.old deciphering.old glued.old inputs.old wires.old scores.old result enciphered.new deciphering.new glued.new inputs.new wires.new scores.new }
 {
-    told(path::score(
+    path::score(
         instance,
         m,
         key,
@@ -263,50 +272,60 @@ pub fn probe_score(
         inputs,
         wires,
         scores,
-    ))
+    )
+    .into()
 }
 
 pub fn probe_read_file(source: &[u8], res: &mut [u32]) -> Reply
     ensures { ReadReply source.now res.old result res.new }
 {
-    told(file::read_file(source, res))
+    file::read_file(source, res).into()
 }
 
 pub fn probe_write_file(net: &[u32], res: &mut [u8]) -> Reply
     ensures { WriteReply net.now res.old result res.new }
 {
-    told(file::write_file(net, res))
+    file::write_file(net, res).into()
 }
 
 pub fn probe_check_file(source: &[u8]) -> Reply
     ensures { result ≡ reply_of (check_answer Full source.now) }
 {
-    told(file::check_file(source))
+    file::check_file(source).into()
 }
 
-fn printout_of(printing: Printing) -> Printout
-    ensures { result ≡ printout_of printing }
-{
-    let answer = printing.answer;
-    let reply = told(answer);
-    Printout {
-        number: reply.number,
-        list: reply.list,
-        place: reply.place,
-        size: printing.size,
+impl From<Result<usize, Refusal>> for Printout {
+    ghost from_gives = { λ printed printout. printout ≡ printout_of printed };
+
+    #[tactic(auto, unfolding(crate::specs::Replies::printout_of))]
+    fn from(printed: Result<usize, Refusal>) -> Printout {
+        match printed {
+            Ok(size) => Printout {
+                number: 0,
+                list: 0,
+                place: 0,
+                size,
+            },
+            Err(e) => Printout {
+                number: u32::from(e.reason),
+                list: e.list,
+                place: e.place,
+                size: 0,
+            },
+        }
     }
 }
 
 pub fn probe_print(input: &[u8], res: &mut [u8]) -> Printout
     ensures { PrintReply input.now res.old result res.new }
 {
-    printout_of(text::print_text(input, res))
+    text::print_text(input, res).into()
 }
 
 pub fn probe_append(key: &[u8], record: &[u8], iv: &[u8], file: &[u8], frame: &mut [u8]) -> Reply
     ensures { AppendReply key.now «record».now iv.now file.now frame.old result frame.new }
 {
-    told(frames::append(key, record, iv, file, frame))
+    frames::append(key, record, iv, file, frame).into()
 }
 
 pub fn probe_append_after(
@@ -318,58 +337,58 @@ pub fn probe_append_after(
 ) -> Reply
     ensures { AppendAfterReply key.now «record».now iv.now last.now frame.old result frame.new }
 {
-    told(frames::append_after(key, record, iv, last, frame))
+    frames::append_after(key, record, iv, last, frame).into()
 }
 
 pub fn probe_read_frames(key: &[u8], file: &[u8], records: &mut [u8]) -> Reply
     ensures { FramesReply key.now file.now records.old result records.new }
 {
-    told(frames::read(key, file, records))
+    frames::read(key, file, records).into()
 }
 
 pub fn probe_check_frames(file: &[u8]) -> Reply
     ensures { result ≡ reply_of (file_answer 1 file.now) }
 {
-    told(frames::check(file))
+    frames::check(file).into()
 }
 
-fn fielding_of(found: Found) -> Fielding
-    ensures { result ≡ fielding_of found }
-{
-    match found {
-        Found::Record(port) => Fielding {
-            number: 0,
-            list: 0,
-            place: 0,
-            port: port.number(),
-            admin: port.admin_up(),
-            link: port.link_up(),
-            errors: port.errors(),
-            load: port.load(),
-        },
-        Found::Refused {
-            number,
-            list,
-            place,
-        } => Fielding {
-            number,
-            list,
-            place,
-            port: 0,
-            admin: 0,
-            link: 0,
-            errors: 0,
-            load: 0,
-        },
+impl From<Result<Port, Refusal>> for Fielding {
+    ghost from_gives = { λ found fielding. fielding ≡ fielding_of found };
+
+    #[tactic(auto, unfolding(crate::specs::Replies::fielding_of))]
+    fn from(found: Result<Port, Refusal>) -> Fielding {
+        match found {
+            Ok(port) => Fielding {
+                number: 0,
+                list: 0,
+                place: 0,
+                port: port.number(),
+                admin: port.admin_up(),
+                link: port.link_up(),
+                errors: port.errors(),
+                load: port.load(),
+            },
+            Err(e) => Fielding {
+                number: u32::from(e.reason),
+                list: e.list,
+                place: e.place,
+                port: 0,
+                admin: 0,
+                link: 0,
+                errors: 0,
+                load: 0,
+            },
+        }
     }
 }
 
 pub fn probe_fields(bits: &[u8]) -> Fielding
     ensures { result ≡ fielding_of (found_by (fields_answer bits.now) (port_of bits.now)) }
 {
-    fielding_of(port::fields(bits))
+    port::fields(bits).into()
 }
 
+#[tactic(auto, unfolding(crate::specs::Replies::reply_of, crate::specs::Replies::putting_of, crate::specs::Replies::bits_left))]
 pub fn probe_bits(
     port: u32,
     admin: u32,
@@ -382,14 +401,14 @@ pub fn probe_bits(
 {
     let made = Port::new(port, admin, link, errors, load);
     match made {
-        Made::TooLarge(field) => Putting {
+        Err(field) => Putting {
             number: 0,
             list: 0,
             place: 0,
-            field,
+            field: u32::from(field),
         },
-        Made::Fitting(p) => {
-            let reply = told(port::bits(p, res));
+        Ok(p) => {
+            let reply = Reply::from(port::bits(p, res));
             Putting {
                 number: reply.number,
                 list: reply.list,

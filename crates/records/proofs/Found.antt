@@ -7,7 +7,7 @@ use native.Mathlib.Omega.{arith}
 use lib.ListN.{length, get_or, length-append}
 use lib.Seq.{get_or-append-add}
 use borrow.Author.Tests.{leb-true, eqb-true, not-false, ltb-false}
-use Rattle.answer.specs.declared.Answer.TheVariants.{Done}
+use Rattle.std.specs.Prelude.{Ok}
 use Rattle.answer.specs.Choose.{choose}
 use Rattle.answer.proofs.Rows.{first_done, then_done, refuse_done, each_at}
 use Rattle.netlist.specs.Words.{gate_stride, gate_place, header, word_count}
@@ -24,7 +24,7 @@ choose_false : (b x : Bool) → choose b x false ≡ true → (b ≡ true) × (x
 choose_false true x e = (refl, e)
 choose_false false x e = absurd (let z : ◌≡◌ {A = ℕ} 0 1 = cc in omega arith)
 
-pub begun : (s : List ℕ) (p letter size : ℕ) → record_answer s p letter size ≡ Done → Begun s p letter size
+pub begun : (s : List ℕ) (p letter size : ℕ) → record_answer s p letter size ≡ Ok tt → Begun s p letter size
 unfolding record_answer record_begins
 begun s p letter size d =
     let e : record_begins s p letter size ≡ true = not-false _ (refuse_done _ _ _ _ d) in
@@ -32,11 +32,11 @@ begun s p letter size d =
     let b = choose_false _ _ a.1 in
     record { fits = leb-true _ _ a.0; first = eqb-true _ _ b.0; second = eqb-true _ _ b.1 }
 
-pub headed : (form : Form) (s : List ℕ) → head_answer form s ≡ Done → Headed form s
+pub headed : (form : Form) (s : List ℕ) → head_answer form s ≡ Ok tt → Headed form s
 unfolding head_answer
 headed form s h = record { head = begun _ _ _ _ (first_done _ _ h); limits = counts_done 1 _ (then_done _ _ h) }
 
-pub framed : (form : Form) (s : List ℕ) → Headed form s → records_answer form s ≡ Done → Framed form s
+pub framed : (form : Form) (s : List ℕ) → Headed form s → records_answer form s ≡ Ok tt → Framed form s
 unfolding records_answer gate_record out_record outs_answer
 framed form s h r =
     let r1 = then_done _ _ r in

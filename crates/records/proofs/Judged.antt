@@ -1,62 +1,40 @@
 -- Laws for the code that judges a file.
 use Prim.Native.Nat.{ℕ, zero, suc, ◌+◌, ◌*◌, ◌<◌, ◌≤◌}
 use mathlib.Core.Path.{◌≡◌, refl, sym, ◌∙◌, ap}
-use mathlib.Core.Bool.{Bool, true, false}
+use mathlib.Core.Bool.{Bool, true}
 use mathlib.Core.List.{List}
 use native.Mathlib.Omega.{arith}
 use native.Mathlib.Numerals.{add-one}
 use native.Mathlib.Nat.{add-zero, le_antisymm}
 use lib.ListN.{length, get_or}
 use lib.Dec.{ltb}
-use borrow.Author.Tests.{leb-true, lt-ltb, le-ltb, le-leb, lt-leb, eq-eqb, ne_eqb}
-use Rattle.answer.specs.declared.Answer.{Answer}
-use Rattle.answer.specs.declared.Answer.TheVariants.{Done, Refused}
-use Rattle.answer.specs.Answers.{refuse, each}
+use borrow.Author.Tests.{leb-true, lt-ltb, le-ltb, le-leb, eq-eqb}
+use Rattle.std.specs.Prelude.{Result, Ok, Err}
+use Rattle.answer.specs.declared.Reason.TheVariants.{File}
+use Rattle.answer.specs.declared.Refusal.{Refusal}
+use Rattle.answer.specs.Answers.{Answer, refused, each, giving}
 use Rattle.answer.specs.Choose.{choose}
-use Rattle.answer.proofs.Rows.{first_done, then_done, both, stop, go, refuse_yes, refuse_not, each_all}
+use Rattle.answer.proofs.Rows.{first_done, then_done, both, stop, stop_by, go, refuse_yes, refuse_not, each_at, each_stop, withheld, given}
+use Rattle.answer.specs.Judges.{room_answer}
 use Rattle.answer.proofs.Judges.{room_done}
 use Rattle.netlist.specs.declared.counts.Counts.{Counts}
 use Rattle.netlist.specs.Words.{gate_place, word_count}
-use Rattle.netlist.specs.Check.{words_answer, gate_answer, output_answer, wires_answer}
+use Rattle.netlist.specs.Check.{words_answer, gate_answer, output_answer, counts_answer, wires_answer}
+use Rattle.netlist.specs.Sound.{Limits}
 use Rattle.records.specs.declared.form.Form.{Form}
 use Rattle.records.specs.declared.Quad.{Quad}
-use Rattle.records.specs.declared.marks.Walk.{Walk}
 use Rattle.records.specs.Bytes.{word_at, whole_word}
-use Rattle.records.specs.File.{byte_n, byte_g, byte_o, width_of, head_size, out_size, counts_in, inputs_in, gates_in, outputs_in, record_begins, size_at, start_of, operand_at, four_in, words_in, record_answer, gate_record, out_record, outs_answer, records_answer, body_answer, read_answer, check_answer}
+use Rattle.records.specs.File.{byte_n, byte_g, byte_o, mark_of, width_of, head_size, out_size, counts_in, inputs_in, gates_in, outputs_in, record_begins, size_at, start_of, operand_at, four_in, words_in, record_answer, gate_record, out_record, outs_answer, records_answer, head_answer, body_answer, read_answer, check_answer}
 use Rattle.records.specs.Whole.{whole_counts, quad_in, gate_there, whole_quad}
-use Rattle.records.specs.Inner.{gate_wire, out_wire, Walked, GatesThere, Framed}
+use Rattle.records.specs.Inner.{gate_wire, out_wire, GatesThere, Headed, Framed}
 use Rattle.records.proofs.Found.{begun, headed, framed, gate_word, output_word}
 
 -- ---- a record
 
-choose_nothing : (b : Bool) → choose b false false ≡ false
-choose_nothing true = refl
-choose_nothing false = refl
-
 module _ (s : List ℕ) (p letter size : ℕ) where
-  pub begins_cut : length s < p + size → record_begins s p letter size ≡ false
-  unfolding record_begins
-  begins_cut h = simp (lt-leb _ _ h)
-
-  pub begins_first : (get_or s p 0 ≡ byte_n → ⊥) → record_begins s p letter size ≡ false
-  unfolding record_begins
-  begins_first h = simp (ne_eqb _ _ h, choose_nothing)
-
-  pub begins_second : (get_or s (p + 1) 0 ≡ letter → ⊥) → record_begins s p letter size ≡ false
-  unfolding record_begins
-  begins_second h = simp (ne_eqb _ _ h, choose_nothing)
-
   pub begins_yes : p + size ≤ length s → get_or s p 0 ≡ byte_n → get_or s (p + 1) 0 ≡ letter → record_begins s p letter size ≡ true
   unfolding record_begins
   begins_yes h a b = simp (le-leb _ _ h, eq-eqb _ _ a, eq-eqb _ _ b)
-
-  pub record_whole : {t : Bool} → t ≡ record_begins s p letter size → t ≡ true → Done ≡ record_answer s p letter size
-  unfolding record_answer refuse
-  record_whole e h = rw (← e, h)
-
-  pub record_broken : {t : Bool} → t ≡ record_begins s p letter size → t ≡ false → Refused 12 1 p ≡ record_answer s p letter size
-  unfolding record_answer refuse
-  record_broken e h = rw (← e, h)
 
 pub size_is : (form : Form) (s : List ℕ) (p : ℕ) {k w : ℕ} → k ≡ get_or s (p + 2) 0 → w ≡ width_of form k → 3 + 4 * w ≡ size_at form s p
 unfolding size_at
@@ -74,28 +52,12 @@ operand_from form s p j e d h = rw (← e, ← d) h
 -- ---- counts, words and gate records taken out
 
 module _ (s : List ℕ) where
-  pub counts_whole : {c : Counts} → head_size ≤ length s → c ≡ counts_in s → c ≡ whole_counts s
-  unfolding whole_counts
-  counts_whole h e = simp (le-leb _ _ h) e
-
-  pub counts_cut : length s < head_size → record { inputs = 0; gates = 0; outputs = 0 } ≡ whole_counts s
-  unfolding whole_counts
-  counts_cut h = simp (lt-leb _ _ h)
-
   -- for who knows that the bytes are there
   pub whole_counts_lem : {c : Counts} → head_size ≤ length s → c ≡ whole_counts s → c ≡ counts_in s
   unfolding whole_counts
   whole_counts_lem h e = simp (le-leb _ _ h) at e
 
 module _ (s : List ℕ) (p : ℕ) where
-  pub word_whole : {x : ℕ} → p + 4 ≤ length s → x ≡ word_at s p → x ≡ whole_word s p
-  unfolding whole_word
-  word_whole h e = simp (le-leb _ _ h) e
-
-  pub word_cut : length s < p + 4 → 0 ≡ whole_word s p
-  unfolding whole_word
-  word_cut h = simp (lt-leb _ _ h)
-
   -- for who knows that the bytes are there
   pub whole_word_lem : {x : ℕ} → p + 4 ≤ length s → x ≡ whole_word s p → x ≡ word_at s p
   unfolding whole_word
@@ -111,27 +73,9 @@ module _ (form : Form) (s : List ℕ) (p : ℕ) where
   unfolding quad_in
   quad_size e = ap (λ q. q.size) e
 
-  -- n is the record's size
-  pub gate_cut : {n : ℕ} → n ≡ size_at form s p → length s < p + n → false ≡ gate_there form s p
+  pub gate_fits : {t : Bool} → t ≡ gate_there form s p → t ≡ true → p + size_at form s p ≤ length s
   unfolding gate_there
-  gate_cut e h = rw (← e) (sym (lt-leb _ _ h))
-
-  pub gate_whole : {n : ℕ} → n ≡ size_at form s p → p + n ≤ length s → true ≡ gate_there form s p
-  unfolding gate_there
-  gate_whole e h = rw (← e) (sym (le-leb _ _ h))
-
-  module _ {t : Bool} (e : t ≡ gate_there form s p) where
-    pub gate_fits : t ≡ true → p + size_at form s p ≤ length s
-    unfolding gate_there
-    gate_fits h = leb-true _ _ (sym e ∙ h)
-
-    pub quad_whole : {q : Quad} → t ≡ true → q ≡ quad_in form s p → q ≡ whole_quad form s p
-    unfolding whole_quad
-    quad_whole h d = rw (← e, h) d
-
-    pub quad_cut : t ≡ false → record { kind = 0; a = 0; b = 0; c = 0; size = 0 } ≡ whole_quad form s p
-    unfolding whole_quad
-    quad_cut h = rw (← e, h)
+  gate_fits e h = leb-true _ _ (sym e ∙ h)
 
   pub whole_quad_lem : {q : Quad} → p + size_at form s p ≤ length s → q ≡ whole_quad form s p → q ≡ quad_in form s p
   unfolding whole_quad gate_there
@@ -153,22 +97,45 @@ unfolding gate_record
 gate_record_at form s g e d h = rw (← e, ← d, h)
 
 -- a record that is whole ends within the file
-pub record_ends : (s : List ℕ) (at letter n : ℕ) {r : Answer} → r ≡ record_answer s at letter n → r ≡ Done → at + n ≤ length s
+pub record_ends : (s : List ℕ) (at letter n : ℕ) {r : Answer} → r ≡ record_answer s at letter n → r ≡ Ok tt → at + n ≤ length s
 record_ends s at letter n e h = (begun s at letter n (sym e ∙ h)).fits
 
-pub walk_stop : (s : List ℕ) {a : Answer} {e : ℕ} (w : Walk) {x y z : ℕ} → w.answer ≡ a → w.answer ≡ Refused x y z → Walked s a e w
-walk_stop s w h r = record { answer = h; ends = λ d. absurd (let z : ◌≡◌ {A = ℕ} 0 1 = cc in omega arith) }
+-- an answer and the value beside it, told by what was given
+pub gave : {X : Type 0} {r : Answer} {s : Result X Refusal} {x y : X} → s ≡ giving r x → s ≡ Ok y → (r ≡ Ok tt) × (y ≡ x)
+unfolding giving
+gave {r = Ok _} e h = (refl, cc)
+gave {r = Err _} e h = absurd (let z : ◌≡◌ {A = ℕ} 0 1 = cc in omega arith)
 
-pub walk_end : (form : Form) (s : List ℕ) {n g at : ℕ} → g ≤ n → n ≤ g → each g (gate_record form s) ≡ Done → at ≡ start_of form s g → at ≤ length s
-    → Walked s (each n (gate_record form s)) (start_of form s n) (record { answer = Done; at = at })
-walk_end form s {n} {g} {at} h k e a l =
-    record { answer = each_all n g (gate_record form s) h k e; ends = λ d. (rw (le_antisymm k h) a, l) }
+pub gave_none : {X : Type 0} {r : Answer} {s : Result X Refusal} {e : Refusal} (x : X) → s ≡ giving r x → s ≡ Err e → r ≡ Err e
+unfolding giving
+gave_none {r = Ok _} x e h = absurd (let z : ◌≡◌ {A = ℕ} 0 1 = cc in omega arith)
+gave_none {r = Err _} x e h = cc
+
+pub walk_stop : (form : Form) (s : List ℕ) {n g at k : ℕ} {r : Answer} {w : Result ℕ Refusal} {e : Refusal} → g < n → each g (gate_record form s) ≡ Ok tt
+    → at ≡ start_of form s g → k ≡ size_at form s at → r ≡ record_answer s at byte_g k → r ≡ Err e → w ≡ Err e → w ≡ giving (each n (gate_record form s)) (start_of form s n)
+walk_stop form s {n} {g} l h a k f x d =
+    let y = each_stop n g (gate_record form s) l h (gate_record_at form s g a k f) x in
+    withheld (start_of form s n) d (sym y ∙ x)
+
+pub walk_end : (form : Form) (s : List ℕ) {n g at : ℕ} → g ≤ n → n ≤ g → each g (gate_record form s) ≡ Ok tt → at ≡ start_of form s g
+    → Ok at ≡ giving (each n (gate_record form s)) (start_of form s n)
+walk_end form s {n} {g} {at} h k e a = rw (le_antisymm k h, ← a) (given at e)
+
+-- records that are whole end within the file
+walk_fits : (form : Form) (s : List ℕ) (n : ℕ) → head_size ≤ length s → each n (gate_record form s) ≡ Ok tt → start_of form s n ≤ length s
+unfolding start_of gate_record
+walk_fits form s zero h e = h
+walk_fits form s (suc n) h e = (begun _ _ _ _ (each_at _ _ e n (omega arith))).fits
 
 pub there_at : (form : Form) (s : List ℕ) {n g at : ℕ} → GatesThere form s n → g < n → at ≡ start_of form s g → at + size_at form s at ≤ length s
 there_at form s {n} {g} t h e = rw e (t.there g h)
 
 pub gates_there : (form : Form) (s : List ℕ) → Framed form s → GatesThere form s (gates_in s)
 gates_there form s f = record { there = λ g h. (f.gate g h).fits }
+
+-- the limits, for who took the counts out
+pub counted_limits : (form : Form) (s : List ℕ) {c : Counts} → Framed form s → c ≡ counts_in s → Limits c
+counted_limits form s f e = rw e f.limits
 
 pub wire_at : (form : Form) (s : List ℕ) (I g : ℕ) {at : ℕ} {q : Quad} {r : Answer} → q ≡ quad_in form s at → at ≡ start_of form s g
     → r ≡ words_answer q.kind q.a q.b q.c (I + g) 1 (gate_place g) → r ≡ gate_wire form s I g
@@ -181,27 +148,18 @@ pub out_record_at : (s : List ℕ) (from o : ℕ) {at : ℕ} {r : Answer} → at
 unfolding out_record
 out_record_at s from o e h = rw (← e, h)
 
-module _ (s : List ℕ) (from : ℕ) {n o at : ℕ} (h : o ≤ n) (k : n ≤ o) (e : each o (out_record s from) ≡ Done) (a : at ≡ from + out_size * o) where
-  pub outs_left : at < length s → Refused 12 1 at ≡ outs_answer s from n
+module _ (s : List ℕ) (from : ℕ) {n o at : ℕ} (h : o ≤ n) (k : n ≤ o) (e : each o (out_record s from) ≡ Ok tt) (a : at ≡ from + out_size * o) where
+  pub outs_left : at < length s → refused File 1 at ≡ outs_answer s from n
   unfolding outs_answer
   outs_left l =
       let q : o ≡ n = le_antisymm h k in
-      rw (← q, ← a) (go refl e (refuse_yes 12 1 at (lt-ltb _ _ l)))
+      rw (← q, ← a) (go refl e (refuse_yes File 1 at (lt-ltb _ _ l)))
 
-  pub outs_end : length s ≤ at → Done ≡ outs_answer s from n
+  pub outs_end : length s ≤ at → Ok tt ≡ outs_answer s from n
   unfolding outs_answer
   outs_end l =
       let q : o ≡ n = le_antisymm h k in
-      rw (← q, ← a) (go refl e (sym (refuse_not 12 1 at (le-ltb _ _ l))))
-
-module _ (s : List ℕ) (from I G o : ℕ) {x : ℕ} (e : x ≡ word_at s (from + out_size * o + 2)) where
-  pub wire_high : I + G ≤ x → Refused 9 1 (gate_place G + o) ≡ out_wire s from I G o
-  unfolding out_wire
-  wire_high h = refuse_yes _ _ _ (rw (← e) (le-leb _ _ h))
-
-  pub wire_low : x < I + G → out_wire s from I G o ≡ Done
-  unfolding out_wire
-  wire_low h = refuse_not _ _ _ (rw (← e) (lt-leb _ _ h))
+      rw (← q, ← a) (go refl e (sym (refuse_not File 1 at (le-ltb _ _ l))))
 
 -- ---- rows
 
@@ -226,36 +184,83 @@ module _ (form : Form) (s : List ℕ) (c : Counts) (e : c ≡ counts_in s) {r : 
   gates_row : r ≡ each (gates_in s) (gate_answer 1 (words_in form s) (inputs_in s))
   gates_row = (rw e at h) ∙ each_same (gates_in s) _ _ (gate_same form s (inputs_in s))
 
-  pub wires_stop : {x y z : ℕ} → r ≡ Refused x y z → r ≡ wires_answer 1 (words_in form s) (counts_in s)
+  pub wires_stop : {x : Refusal} → r ≡ Err x → r ≡ wires_answer 1 (words_in form s) (counts_in s)
   wires_stop k = stop _ gates_row k
 
-  pub wires_go : (from : ℕ) {q : Answer} → r ≡ Done → from ≡ start_of form s (gates_in s) → q ≡ each c.outputs (out_wire s from c.inputs c.gates)
+  pub wires_go : (from : ℕ) {q : Answer} → r ≡ Ok tt → from ≡ start_of form s (gates_in s) → q ≡ each c.outputs (out_wire s from c.inputs c.gates)
       → q ≡ wires_answer 1 (words_in form s) (counts_in s)
   wires_go from k f q = go gates_row k ((rw (f, e) at q) ∙ outs_same form s (inputs_in s))
 
-module _ (form : Form) (s : List ℕ) (c : Counts) (e : c ≡ counts_in s) {w : Walk} (t : Walked s (each c.gates (gate_record form s)) (start_of form s c.gates) w) where
-  walked : Walked s (each (gates_in s) (gate_record form s)) (start_of form s (gates_in s)) w
+module _ (form : Form) (s : List ℕ) (c : Counts) (e : c ≡ counts_in s) {w : Result ℕ Refusal}
+    (t : w ≡ giving (each c.gates (gate_record form s)) (start_of form s c.gates)) where
+  walked : w ≡ giving (each (gates_in s) (gate_record form s)) (start_of form s (gates_in s))
   walked = rw e at t
 
-  pub records_stop : {x y z : ℕ} → w.answer ≡ Refused x y z → Walked s (records_answer form s) (start_of form s (gates_in s)) w
+  pub records_stop : {x : Refusal} → w ≡ Err x → w ≡ giving (records_answer form s) (start_of form s (gates_in s))
   unfolding records_answer
-  records_stop h = walk_stop s w (stop _ walked.answer h) h
+  records_stop h = withheld _ h (sym (stop_by _ refl refl (gave_none _ walked h)))
 
-  pub records_go : {r : Answer} → w.answer ≡ Done → r ≡ outs_answer s w.at c.outputs
-      → Walked s (records_answer form s) (start_of form s (gates_in s)) (record { answer = r; at = w.at })
-  unfolding records_answer
-  records_go d h =
-      let z = walked.ends d in
-      record { answer = go walked.answer d (rw (z.0, e) at h); ends = λ k. z }
+  module _ {from : ℕ} (k : w ≡ Ok from) where
+    pub from_fits : head_size ≤ length s → from ≤ length s
+    from_fits l = let z = gave walked k in rw z.1 (walk_fits form s (gates_in s) l z.0)
+
+    module _ {r : Answer} (h : r ≡ outs_answer s from c.outputs) where
+      row : r ≡ records_answer form s
+      unfolding records_answer
+      row = let z = gave walked k in go refl z.0 (rw (z.1, e) at h)
+
+      pub outs_stop : {v : Result ℕ Refusal} {x : Refusal} → r ≡ Err x → v ≡ Err x → v ≡ giving (records_answer form s) (start_of form s (gates_in s))
+      outs_stop x d = withheld _ d (sym row ∙ x)
+
+      pub records_go : r ≡ Ok tt → Ok from ≡ giving (records_answer form s) (start_of form s (gates_in s))
+      records_go x = let z = gave walked k in rw z.1 (given _ (sym row ∙ x))
+
+-- ---- for the calls
+
+module _ (form : Form) (s : List ℕ) where
+  pub head_go : {h r : Answer} {c : Counts} → h ≡ record_answer s 0 (mark_of form) head_size → h ≡ Ok tt → c ≡ whole_counts s → r ≡ counts_answer 1 c
+      → r ≡ head_answer form s
+  unfolding head_answer
+  head_go e d k h = go e d (rw (whole_counts_lem s (begun _ _ _ _ (sym e ∙ d)).fits k) at h)
+
+  module _ {w : Result ℕ Refusal} (t : w ≡ giving (records_answer form s) (start_of form s (gates_in s))) where
+    pub body_stop : {r : Answer} {e : Refusal} → w ≡ Err e → r ≡ Err e → r ≡ body_answer form s
+    unfolding body_answer
+    body_stop h d = stop_by _ d refl (gave_none _ t h)
+
+    module _ {from : ℕ} (k : w ≡ Ok from) where
+      pub body_from : from ≡ start_of form s (gates_in s)
+      body_from = (gave t k).1
+
+      pub body_framed : Headed form s → Framed form s
+      body_framed h = framed form s h (gave t k).0
+
+      pub body_go : {r : Answer} → r ≡ wires_answer 1 (words_in form s) (counts_in s) → r ≡ body_answer form s
+      unfolding body_answer
+      body_go h = go refl (gave t k).0 h
+
+  -- room, where header and counts are accepted
+  module _ (room : ℕ) {h r : Answer} {c : Counts} {n : ℕ} (e : h ≡ head_answer form s) (d : h ≡ Ok tt) (k : c ≡ whole_counts s) (l : n ≡ word_count c)
+      (f : r ≡ room_answer 2 room n) where
+    roomed : r ≡ room_answer 2 room (word_count (counts_in s))
+    roomed = rw (l, whole_counts_lem s (headed form s (sym e ∙ d)).head.fits k) at f
+
+    pub room_stop : {x : Refusal} → r ≡ Err x → r ≡ read_answer form s room
+    unfolding read_answer
+    room_stop g = go e d (stop _ roomed g)
+
+    pub room_go : {q : Answer} → r ≡ Ok tt → q ≡ body_answer form s → q ≡ read_answer form s room
+    unfolding read_answer
+    room_go g b = go e d (go roomed g b)
 
 -- ---- what is known where nothing was refused
 
-pub check_framed : (form : Form) (s : List ℕ) → check_answer form s ≡ Done → Framed form s
+pub check_framed : (form : Form) (s : List ℕ) → check_answer form s ≡ Ok tt → Framed form s
 unfolding check_answer body_answer
 check_framed form s e = framed form s (headed form s (first_done _ _ e)) (first_done _ _ (then_done _ _ e))
 
 -- reading is done where the check is, and there is room
-pub read_done : (form : Form) (s : List ℕ) (n : ℕ) → read_answer form s n ≡ Done → (check_answer form s ≡ Done) × (word_count (counts_in s) ≤ n)
+pub read_done : (form : Form) (s : List ℕ) (n : ℕ) → read_answer form s n ≡ Ok tt → (check_answer form s ≡ Ok tt) × (word_count (counts_in s) ≤ n)
 unfolding read_answer check_answer
 read_done form s n e =
     let e1 = then_done _ _ e in

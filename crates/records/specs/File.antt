@@ -1,8 +1,8 @@
 -- The netlist file as it is judged and read. docs/RULES.md, "Netlist file": a two-byte mark before each record; words little-endian; "NH" I G O; for
 -- each gate "NG", a kind byte, a b c; for each output "NO", wire. Lists: 1 what is read, 2 the result.
+use Rattle.answer.specs.declared.Reason.TheVariants.{File}
 use Rattle.std.specs.Prelude.{ℕ, zero, suc, ◌+◌, ◌*◌, Bool, false, not, List, [], ◌∷◌, ◌++◌, length, get_or, ltb, leb, eqb}
-use Rattle.answer.specs.declared.Answer.{Answer}
-use Rattle.answer.specs.Answers.{◌▹◌, refuse, each}
+use Rattle.answer.specs.Answers.{Answer, ◌▹◌, refuse, each}
 use Rattle.answer.specs.Choose.{choose}
 use Rattle.answer.specs.Judges.{room_answer}
 use Rattle.netlist.specs.declared.counts.Counts.{Counts}
@@ -102,7 +102,7 @@ record_begins s p letter size =
 
 -- 12: file mark wrong, record cut; at the record's start
 unfoldable pub record_answer : List ℕ → ℕ → ℕ → ℕ → Answer
-record_answer s p letter size = refuse 12 1 p (not (record_begins s p letter size))
+record_answer s p letter size = refuse File 1 p (not (record_begins s p letter size))
 
 unfoldable pub gate_record : Form → List ℕ → ℕ → Answer
 gate_record form s g = record_answer s (start_of form s g) byte_g (size_at form s (start_of form s g))
@@ -112,7 +112,7 @@ out_record s p o = record_answer s (p + out_size * o) byte_o out_size
 
 -- n outputs' records from p on, then 12: bytes left over; at the rest's start
 unfoldable pub outs_answer : List ℕ → ℕ → ℕ → Answer
-outs_answer s p n = each n (out_record s p) ▹ refuse 12 1 (p + out_size * n) (ltb (p + out_size * n) (length s))
+outs_answer s p n = each n (out_record s p) ▹ refuse File 1 (p + out_size * n) (ltb (p + out_size * n) (length s))
 
 unfoldable pub records_answer : Form → List ℕ → Answer
 records_answer form s = each (gates_in s) (gate_record form s) ▹ outs_answer s (start_of form s (gates_in s)) (outputs_in s)

@@ -1,14 +1,12 @@
 -- Inner: only contracts of private functions cite this. The steps in which the code judges a file, and what each hands to
 -- the next.
+use Rattle.answer.specs.declared.Reason.TheVariants.{Netlist}
 use Rattle.std.specs.Prelude.{ℕ, ◌+◌, ◌*◌, ◌<◌, ◌≤◌, ◌≡◌, List, length, get_or, leb}
-use Rattle.answer.specs.declared.Answer.{Answer}
-use Rattle.answer.specs.declared.Answer.TheVariants.{Done}
-use Rattle.answer.specs.Answers.{refuse}
+use Rattle.answer.specs.Answers.{Answer, refuse}
 use Rattle.netlist.specs.Words.{gate_place}
 use Rattle.netlist.specs.Check.{words_answer}
 use Rattle.netlist.specs.Sound.{Limits}
 use Rattle.records.specs.declared.form.Form.{Form}
-use Rattle.records.specs.declared.marks.Walk.{Walk}
 use Rattle.records.specs.Bytes.{word_at}
 use Rattle.records.specs.File.{byte_n, byte_g, byte_o, mark_of, head_size, out_size, counts_in, gates_in, outputs_in, size_at, start_of, operand_at}
 
@@ -24,12 +22,7 @@ gate_wire form s I g =
     (gate_place g)
 
 unfoldable pub out_wire : List ℕ → ℕ → ℕ → ℕ → ℕ → Answer
-out_wire s p I G o = refuse 9 1 (gate_place G + o) (leb (I + G) (word_at s (p + out_size * o + 2)))
-
--- what a walk over records gives: its answer, and if done where it ends
-pub record Walked (s : List ℕ) (a : Answer) (end : ℕ) (w : Walk) : Type 0 where
-  pub answer : w.answer ≡ a
-  pub ends : w.answer ≡ Done → (w.at ≡ end) × (w.at ≤ length s)
+out_wire s p I G o = refuse Netlist 1 (gate_place G + o) (leb (I + G) (word_at s (p + out_size * o + 2)))
 
 -- the first n gate records are all there
 pub record GatesThere (form : Form) (s : List ℕ) (n : ℕ) : Type 0 where

@@ -6,19 +6,19 @@ ghost use Rattle.records.specs.File.{mark_of, width_of};
 use netlist::HEADER_WORDS;
 
 // Full: all three operands, used or not.
-#[derive(Clone, Copy)]
+#[derive(Clone, Copy, Debug, PartialEq, Eq)]
 pub enum Form {
     Full,
 }
 
-// The letters N, H, G and O: each mark is N and one of the others.
-pub const BYTE_N: u8 = 78;
+// Each mark is N and one of the others.
+pub const BYTE_N: u8 = b'N';
 
-const BYTE_H: u8 = 72;
+const BYTE_H: u8 = b'H';
 
-pub const BYTE_G: u8 = 71;
+pub const BYTE_G: u8 = b'G';
 
-pub const BYTE_O: u8 = 79;
+pub const BYTE_O: u8 = b'O';
 
 // The bytes of the header's record, and of an output's.
 pub const HEAD_SIZE: usize = 2 + 4 * HEADER_WORDS;
@@ -26,6 +26,7 @@ pub const HEAD_SIZE: usize = 2 + 4 * HEADER_WORDS;
 pub const OUT_SIZE: usize = 6;
 
 // The header's letter.
+#[tactic(auto, unfolding(crate::specs::File::mark_of))]
 pub fn mark_of(form: Form) -> u8
     ensures { result ≡ mark_of form }
 {
@@ -35,6 +36,7 @@ pub fn mark_of(form: Form) -> u8
 }
 
 // How many operands the record of a gate of this kind has.
+#[tactic(auto, unfolding(crate::specs::File::width_of))]
 pub fn width(form: Form, kind: u32) -> usize
     ensures { (result ≡ width_of form kind) × (result ≤ 3) }
 {

@@ -1,9 +1,11 @@
 -- A few gates stored one after the other.
-use mathlib.Core.Path.{◌≡◌, sym, ◌∙◌}
-use mathlib.Core.List.{List, [], ◌∷◌}
-use Prim.Native.Nat.{ℕ, ◌+◌}
+use mathlib.Core.Path.{◌≡◌, sym, ap, ◌∙◌}
+use mathlib.Core.List.{List, [], ◌∷◌, append_assoc}
+use Prim.Native.Nat.{ℕ, ◌+◌, ◌≤◌}
 use native.Mathlib.Omega.{arith}
-use lib.Seq.{sets}
+use borrow.Rule.Slice.PartMut.{put_mid}
+use lib.ListN.{length, take, drop}
+use lib.Seq.{sets, sets-eq, drop-drop}
 use Rattle.netlist.specs.declared.gate.Gate.{Gate}
 use Rattle.netlist.specs.Gates.{gate_words}
 use Rattle.netlist.specs.Put.{put_gates}
@@ -29,3 +31,9 @@ tail_put out o₁ o₂ o₃ o₄ i a b c d e f g x y z e₁ e₂ e₃ e₄ =
     more out o₃ o₄ i (i + 28) (a ∷ b ∷ c ∷ g ∷ d ∷ e ∷ f ∷ []) (x ∷ y ∷ z ∷ [])
     (more out o₂ o₃ i (i + 16) (a ∷ b ∷ c ∷ g ∷ []) (d ∷ e ∷ f ∷ [])
     (next out o₁ o₂ i (i + 12) (a ∷ b ∷ c ∷ []) g e₁ e₂ (omega arith)) e₃ (omega arith)) e₄ (omega arith)
+
+-- words copied over a part of a slice
+pub part_put : (a k : ℕ) (xs ys vs : List ℕ) → ys ≡ vs → k ≡ length vs → a + k ≤ length xs → put_mid a k xs ys ≡ sets xs a vs
+part_put a k xs ys vs e h r =
+    let d : drop k (drop a xs) ≡ drop (a + length vs) xs = drop-drop k a xs ∙ ap (λ (n : ℕ). drop (a + n) xs) h in
+    rw (e, d) (sym (sets-eq vs xs a (omega arith) ∙ append_assoc (take a xs) vs _))

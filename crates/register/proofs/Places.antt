@@ -14,8 +14,10 @@ use Rattle.rounds.proofs.Lists.{length_push, Sized}
 use Rattle.rounds.proofs.Net.{start_sized}
 use Rattle.register.specs.declared.wires.Five.{Five}
 use Rattle.register.specs.declared.wires.Taps.{Taps}
-use Rattle.register.specs.InnerPlaces.{tail_at, registers_at, const_wire, wire_a, wire_b, start_c, wire_c, five_a, five_b, five_c, taps_of, places_a, places_b, places_c, ago_of}
-use Rattle.register.proofs.Cases.{a_new, a_old, b_new, b_old, c_new, c_old, c_iv, c_ones, c_zero}
+use Rattle.register.specs.declared.wires.Register.{Register}
+use Rattle.register.specs.declared.wires.Register.TheVariants.{A, B, C}
+use Rattle.register.specs.InnerPlaces.{tail_at, registers_at, const_wire, start_c, entering, wire_of, five_of, taps_of, places_of, Read}
+use Rattle.register.proofs.Cases.{wire_new, wire_old, c_iv, c_ones, c_zero}
 
 get_d_push : (x : ℕ) (l : List ℕ) (j : ℕ) → j < length l → get_or (push x l) j 0 ≡ get_or (x ∷ l) j 0
 unfolding push
@@ -140,29 +142,29 @@ module _ (iv : List ℕ) (m : ℕ) where
     z : Sized (start_wires iv m)
     z = start_sized iv m h
 
-    place_a : (n j : ℕ) → j < 93 → wire_a m n j ≡ get_or (registers_at iv m n).a j 0
+    place_a : (n j : ℕ) → j < 93 → wire_of A iv m n j ≡ get_or (registers_at iv m n).a j 0
     place_a n j q =
         let l = (start_wires iv m).a in
         let f : ℕ → ℕ = λ i. tail_at m i + 9 in
         split j n
-        (λ p. sym (ap (λ (r : List ℕ). get_or r j 0) (reg_a n) ∙ reg_new f l n j (omega (arith, z.a)) p ∙ a_new m n j _ p refl))
-        (λ p. sym (ap (λ (r : List ℕ). get_or r j 0) (reg_a n) ∙ reg_old f l n j (omega (arith, z.a)) p ∙ start_a (j - n) (omega arith) ∙ a_old m n j p))
+        (λ p. sym (ap (λ (r : List ℕ). get_or r j 0) (reg_a n) ∙ reg_new f l n j (omega (arith, z.a)) p ∙ wire_new A iv m n j _ p refl))
+        (λ p. sym (ap (λ (r : List ℕ). get_or r j 0) (reg_a n) ∙ reg_old f l n j (omega (arith, z.a)) p ∙ start_a (j - n) (omega arith) ∙ wire_old A iv m n j _ p refl))
 
-    place_b : (n j : ℕ) → j < 84 → wire_b iv m n j ≡ get_or (registers_at iv m n).b j 0
+    place_b : (n j : ℕ) → j < 84 → wire_of B iv m n j ≡ get_or (registers_at iv m n).b j 0
     place_b n j q =
         let l = (start_wires iv m).b in
         let f : ℕ → ℕ = λ i. tail_at m i + 3 in
         split j n
-        (λ p. sym (ap (λ (r : List ℕ). get_or r j 0) (reg_b n) ∙ reg_new f l n j (omega (arith, z.b)) p ∙ b_new iv m n j _ p refl))
-        (λ p. sym (ap (λ (r : List ℕ). get_or r j 0) (reg_b n) ∙ reg_old f l n j (omega (arith, z.b)) p ∙ b_old iv m n j _ p (start_b (j - n) (omega arith))))
+        (λ p. sym (ap (λ (r : List ℕ). get_or r j 0) (reg_b n) ∙ reg_new f l n j (omega (arith, z.b)) p ∙ wire_new B iv m n j _ p refl))
+        (λ p. sym (ap (λ (r : List ℕ). get_or r j 0) (reg_b n) ∙ reg_old f l n j (omega (arith, z.b)) p ∙ wire_old B iv m n j _ p (start_b (j - n) (omega arith))))
 
-    place_c : (n j : ℕ) → j < 111 → wire_c iv m n j ≡ get_or (registers_at iv m n).c j 0
+    place_c : (n j : ℕ) → j < 111 → wire_of C iv m n j ≡ get_or (registers_at iv m n).c j 0
     place_c n j q =
         let l = (start_wires iv m).c in
         let f : ℕ → ℕ = λ i. tail_at m i + 6 in
         split j n
-        (λ p. sym (ap (λ (r : List ℕ). get_or r j 0) (reg_c n) ∙ reg_new f l n j (omega (arith, z.c)) p ∙ c_new iv m n j _ p refl))
-        (λ p. sym (ap (λ (r : List ℕ). get_or r j 0) (reg_c n) ∙ reg_old f l n j (omega (arith, z.c)) p ∙ c_old iv m n j _ p (starts_c (j - n) (omega arith))))
+        (λ p. sym (ap (λ (r : List ℕ). get_or r j 0) (reg_c n) ∙ reg_new f l n j (omega (arith, z.c)) p ∙ wire_new C iv m n j _ p refl))
+        (λ p. sym (ap (λ (r : List ℕ). get_or r j 0) (reg_c n) ∙ reg_old f l n j (omega (arith, z.c)) p ∙ wire_old C iv m n j _ p (starts_c (j - n) (omega arith))))
 
     place_k : (n : ℕ) → (127 + 127 * n) % 128 ≡ k0 0 (registers_at iv m n)
     unfolding start_wires loaded
@@ -174,52 +176,44 @@ module _ (iv : List ℕ) (m : ℕ) where
         let l = map (bit_of (128 + m) (129 + m)) iv in
         sym (ap (λ (r : List ℕ). get_or r 127 0) (reg_v n) ∙ turned-at l (length-map iv (bit_of (128 + m) (129 + m)) ∙ h) n 127 (omega arith) ∙ iv_wire ((127 + 127 * n) % 128) (omega arith))
 
-    fives_a : (n : ℕ) → places_a m n ≡ five_a (registers_at iv m n)
-    fives_a n = five_eq (place_a n 65 (omega arith)) (place_a n 68 (omega arith)) (place_a n 90 (omega arith)) (place_a n 91 (omega arith)) (place_a n 92 (omega arith))
-
-    fives_b : (n : ℕ) → places_b iv m n ≡ five_b (registers_at iv m n)
-    fives_b n = five_eq (place_b n 68 (omega arith)) (place_b n 77 (omega arith)) (place_b n 81 (omega arith)) (place_b n 82 (omega arith)) (place_b n 83 (omega arith))
-
-    fives_c : (n : ℕ) → places_c iv m n ≡ five_c (registers_at iv m n)
-    fives_c n = five_eq (place_c n 65 (omega arith)) (place_c n 86 (omega arith)) (place_c n 108 (omega arith)) (place_c n 109 (omega arith)) (place_c n 110 (omega arith))
+    -- what a round reads of a register, by its places
+    pub fives : (r : Register) (n : ℕ) (x y : Five) → y ≡ places_of r
+        → x.p ≡ wire_of r iv m n y.p → x.q ≡ wire_of r iv m n y.q → x.r ≡ wire_of r iv m n y.r → x.s ≡ wire_of r iv m n y.s → x.t ≡ wire_of r iv m n y.t
+        → x ≡ five_of r (registers_at iv m n)
+    fives A n x y e p q r s t = five_eq
+        (p ∙ ap (λ (v : Five). wire_of A iv m n v.p) e ∙ place_a n 65 (omega arith))
+        (q ∙ ap (λ (v : Five). wire_of A iv m n v.q) e ∙ place_a n 68 (omega arith))
+        (r ∙ ap (λ (v : Five). wire_of A iv m n v.r) e ∙ place_a n 90 (omega arith))
+        (s ∙ ap (λ (v : Five). wire_of A iv m n v.s) e ∙ place_a n 91 (omega arith))
+        (t ∙ ap (λ (v : Five). wire_of A iv m n v.t) e ∙ place_a n 92 (omega arith))
+    fives B n x y e p q r s t = five_eq
+        (p ∙ ap (λ (v : Five). wire_of B iv m n v.p) e ∙ place_b n 68 (omega arith))
+        (q ∙ ap (λ (v : Five). wire_of B iv m n v.q) e ∙ place_b n 77 (omega arith))
+        (r ∙ ap (λ (v : Five). wire_of B iv m n v.r) e ∙ place_b n 81 (omega arith))
+        (s ∙ ap (λ (v : Five). wire_of B iv m n v.s) e ∙ place_b n 82 (omega arith))
+        (t ∙ ap (λ (v : Five). wire_of B iv m n v.t) e ∙ place_b n 83 (omega arith))
+    fives C n x y e p q r s t = five_eq
+        (p ∙ ap (λ (v : Five). wire_of C iv m n v.p) e ∙ place_c n 65 (omega arith))
+        (q ∙ ap (λ (v : Five). wire_of C iv m n v.q) e ∙ place_c n 86 (omega arith))
+        (r ∙ ap (λ (v : Five). wire_of C iv m n v.r) e ∙ place_c n 108 (omega arith))
+        (s ∙ ap (λ (v : Five). wire_of C iv m n v.s) e ∙ place_c n 109 (omega arith))
+        (t ∙ ap (λ (v : Five). wire_of C iv m n v.t) e ∙ place_c n 110 (omega arith))
 
 taps_eq : {a a' b b' c c' : Five} {k k' v v' : ℕ} → a ≡ a' → b ≡ b' → c ≡ c' → k ≡ k' → v ≡ v'
     → ◌≡◌ {A = Taps} (record { a = a; b = b; c = c; k = k; v = v }) (record { a = a'; b = b'; c = c'; k = k'; v = v' })
 taps_eq p q r s t i = record { a = p i; b = q i; c = r i; k = s i; v = t i }
 
--- what a round reads, by its places
-pub taps_are : (iv : List ℕ) (m n k v : ℕ) (a b c : Five) → length iv ≡ 128 → a ≡ places_a m n → b ≡ places_b iv m n → c ≡ places_c iv m n
+-- and all that a round reads
+pub taps_are : (iv : List ℕ) (m n k v : ℕ) (a b c : Five) → length iv ≡ 128
+    → a ≡ five_of A (registers_at iv m n) → b ≡ five_of B (registers_at iv m n) → c ≡ five_of C (registers_at iv m n)
     → k ≡ (127 + 127 * n) % 128 → v ≡ const_wire iv m k → ◌≡◌ {A = Taps} (record { a = a; b = b; c = c; k = k; v = v }) (taps_of (registers_at iv m n))
 taps_are iv m n k v a b c h ea eb ec ek ev =
-    taps_eq (ea ∙ fives_a iv m h n) (eb ∙ fives_b iv m h n) (ec ∙ fives_c iv m h n) (ek ∙ place_k iv m h n) (ev ∙ ap (const_wire iv m) ek ∙ place_v iv m h n)
+    taps_eq ea eb ec (ek ∙ place_k iv m h n) (ev ∙ ap (const_wire iv m) ek ∙ place_v iv m h n)
 
--- and in a late round, where all of it entered
-entered_ago : (m n j p d : ℕ) → p ≡ j + 1 → 65 ≤ j → j < n → n < 1216 → 134 + m + 14 * n + d - 14 * p ≡ tail_at m (n - j - 1) + d
+-- where all of it entered, in a late round
+pub late_wire : (r : Register) (iv : List ℕ) (m n j e x : ℕ) → 111 ≤ n → n < 1216 → Read j → e ≡ entering r → x ≡ 134 + m + 14 * n + e - 14 * (j + 1)
+    → x ≡ wire_of r iv m n j
 unfolding tail_at
-entered_ago m n j p d e h q l = omega arith
-
-module _ (m n : ℕ) (h : 111 ≤ n) (l : n < 1216) where
-  ago_a : (j p : ℕ) → p ≡ j + 1 → 65 ≤ j → j < 111 → 134 + m + 14 * n + 9 - 14 * p ≡ wire_a m n j
-  ago_a j p e a b = entered_ago m n j p 9 e a (omega arith) l ∙ a_new m n j _ (omega arith) refl
-
-  pub late_a : ago_of (134 + m + 14 * n + 9) 66 69 91 92 93 ≡ places_a m n
-  late_a =
-      five_eq (ago_a 65 66 refl (omega arith) (omega arith)) (ago_a 68 69 refl (omega arith) (omega arith)) (ago_a 90 91 refl (omega arith) (omega arith))
-      (ago_a 91 92 refl (omega arith) (omega arith)) (ago_a 92 93 refl (omega arith) (omega arith))
-
-  module _ (iv : List ℕ) where
-    ago_b : (j p : ℕ) → p ≡ j + 1 → 65 ≤ j → j < 111 → 134 + m + 14 * n + 3 - 14 * p ≡ wire_b iv m n j
-    ago_b j p e a b = entered_ago m n j p 3 e a (omega arith) l ∙ b_new iv m n j _ (omega arith) refl
-
-    ago_c : (j p : ℕ) → p ≡ j + 1 → 65 ≤ j → j < 111 → 134 + m + 14 * n + 6 - 14 * p ≡ wire_c iv m n j
-    ago_c j p e a b = entered_ago m n j p 6 e a (omega arith) l ∙ c_new iv m n j _ (omega arith) refl
-
-    pub late_b : ago_of (134 + m + 14 * n + 3) 69 78 82 83 84 ≡ places_b iv m n
-    late_b =
-        five_eq (ago_b 68 69 refl (omega arith) (omega arith)) (ago_b 77 78 refl (omega arith) (omega arith)) (ago_b 81 82 refl (omega arith) (omega arith))
-        (ago_b 82 83 refl (omega arith) (omega arith)) (ago_b 83 84 refl (omega arith) (omega arith))
-
-    pub late_c : ago_of (134 + m + 14 * n + 6) 66 87 109 110 111 ≡ places_c iv m n
-    late_c =
-        five_eq (ago_c 65 66 refl (omega arith) (omega arith)) (ago_c 86 87 refl (omega arith) (omega arith)) (ago_c 108 109 refl (omega arith) (omega arith))
-        (ago_c 109 110 refl (omega arith) (omega arith)) (ago_c 110 111 refl (omega arith) (omega arith))
+late_wire r iv m n j e x h l b q g =
+    let t : tail_at m (n - j - 1) + entering r ≡ wire_of r iv m n j = wire_new r iv m n j _ (omega arith) refl in
+    omega arith

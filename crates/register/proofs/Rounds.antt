@@ -84,34 +84,33 @@ output_turn iv m k t out o h et e =
     ∙ put_append (head_gates w s ++ (outs ++ tail_gates w (w + 7) s)) rest out (output_at k) (output_at (k + 1)) (omega arith)
     ∙ sym (ap (λ (x : ℕ). put_gates out (output_at k) (gates_from 0 x (128 + k) w s)) f)
 
--- where the loops end
-pub early_end : (iv : List ℕ) (m n : ℕ) (o : List ℕ) → n ≤ 111 → 111 ≤ n → put_gates o (plain_at 111) (plain_rest iv m 111) ≡ put_gates o (plain_at n) (plain_rest iv m n)
-early_end iv m n o h g = let e : 111 ≡ n = omega arith in ap (λ (x : ℕ). put_gates o (plain_at x) (plain_rest iv m x)) e
+-- where the loops begin and end
+pub plain_from : (iv : List ℕ) (m n : ℕ) (o : List ℕ) → n ≡ 111 → put_gates o (plain_at 111) (plain_rest iv m 111) ≡ put_gates o (plain_at n) (plain_rest iv m n)
+plain_from iv m n o e = ap (λ (x : ℕ). put_gates o (plain_at x) (plain_rest iv m x)) (sym e)
 
-pub late_end : (iv : List ℕ) (m n : ℕ) (o : List ℕ) → n ≤ 1152 → 1152 ≤ n → put_gates o (output_at 0) (output_rest iv m 0) ≡ put_gates o (plain_at n) (plain_rest iv m n)
+pub plain_end : (iv : List ℕ) (m n : ℕ) (o : List ℕ) → n ≡ 1152 → put_gates o (output_at 0) (output_rest iv m 0) ≡ put_gates o (plain_at n) (plain_rest iv m n)
 unfolding plain_rest output_rest
-late_end iv m n o h g =
-    let q : 1152 ≡ n = omega arith in
+plain_end iv m n o e =
     let f : m - 0 ≡ m = omega arith in
     let w : output_wire m 0 ≡ plain_wire m 1152 = omega arith in
-    ap₂ (λ (x y : ℕ). put_gates o (output_at 0) (gates_from 0 x 128 y (registers_at iv m 1152))) f w ∙ ap (λ (x : ℕ). put_gates o (plain_at x) (plain_rest iv m x)) q
+    ap₂ (λ (x y : ℕ). put_gates o (output_at 0) (gates_from 0 x 128 y (registers_at iv m 1152))) f w
+    ∙ ap (λ (x : ℕ). put_gates o (plain_at x) (plain_rest iv m x)) (sym e)
 
-pub output_end : (iv : List ℕ) (m k : ℕ) (o : List ℕ) → k ≤ m → m ≤ k → o ≡ put_gates o (output_at k) (output_rest iv m k)
+pub output_end : (iv : List ℕ) (m k : ℕ) (o : List ℕ) → m ≤ k → o ≡ put_gates o (output_at k) (output_rest iv m k)
 unfolding output_rest gates_from put_gates
-output_end iv m k o h g =
+output_end iv m k o h =
     let f : 0 ≡ m - k = omega arith in
     ap (λ (x : ℕ). put_gates o (output_at k) (gates_from 0 x (128 + k) (output_wire m k) (registers_at iv m (1152 + k)))) f
 
 -- ZERO, ONE and all rounds
-pub all_put : (iv : List ℕ) (m i j : ℕ) (out o₁ o₂ o₃ o₄ o₅ : List ℕ) → i ≡ gate_place 0 → j ≡ gate_place 1
+pub all_put : (iv : List ℕ) (m i j : ℕ) (out o₁ o₂ o₃ o₄ : List ℕ) → i ≡ gate_place 0 → j ≡ gate_place 1
     → o₁ ≡ sets out i (gate_words Zero) → o₂ ≡ sets o₁ j (gate_words One)
-    → put_gates o₃ (plain_at 111) (plain_rest iv m 111) ≡ put_gates o₂ (plain_at 0) (plain_rest iv m 0)
-    → put_gates o₄ (output_at 0) (output_rest iv m 0) ≡ put_gates o₃ (plain_at 111) (plain_rest iv m 111)
-    → o₅ ≡ put_gates o₄ (output_at 0) (output_rest iv m 0)
-    → o₅ ≡ put_gates out header_words (kreyvium_gates iv m)
+    → put_gates o₃ (output_at 0) (output_rest iv m 0) ≡ put_gates o₂ (plain_at 0) (plain_rest iv m 0)
+    → o₄ ≡ put_gates o₃ (output_at 0) (output_rest iv m 0)
+    → o₄ ≡ put_gates out header_words (kreyvium_gates iv m)
 unfolding kreyvium_gates plain_rest registers_at
-all_put iv m i j out o₁ o₂ o₃ o₄ o₅ ei ej e₁ e₂ e₃ e₄ e₅ =
+all_put iv m i j out o₁ o₂ o₃ o₄ ei ej e₁ e₂ e₃ e₄ =
     let w : plain_wire m 0 ≡ 130 + m = omega arith in
-    more out o₂ o₅ header_words (plain_at 0) (Zero ∷ One ∷ []) (gates_from 1152 m 128 (plain_wire m 0) (start_wires iv m))
-    (two out o₁ o₂ header_words (gate_place 1) Zero One (e₁ ∙ ap (λ (n : ℕ). sets out n (gate_words Zero)) ei) (e₂ ∙ ap (λ (n : ℕ). sets o₁ n (gate_words One)) ej) refl) (e₅ ∙ e₄ ∙ e₃) refl
+    more out o₂ o₄ header_words (plain_at 0) (Zero ∷ One ∷ []) (gates_from 1152 m 128 (plain_wire m 0) (start_wires iv m))
+    (two out o₁ o₂ header_words (gate_place 1) Zero One (e₁ ∙ ap (λ (n : ℕ). sets out n (gate_words Zero)) ei) (e₂ ∙ ap (λ (n : ℕ). sets o₁ n (gate_words One)) ej) refl) (e₄ ∙ e₃) refl
     ∙ ap (λ (x : ℕ). put_gates out header_words (Zero ∷ One ∷ gates_from 1152 m 128 x (start_wires iv m))) w

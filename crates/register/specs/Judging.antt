@@ -1,7 +1,6 @@
 -- What the call answers. docs/RULES.md, "Answer numbers".
 use Rattle.std.specs.Prelude.{ℕ, List, length}
-use Rattle.answer.specs.declared.Answer.{Answer}
-use Rattle.answer.specs.Answers.{◌▹◌}
+use Rattle.answer.specs.Answers.{Answer, ◌▹◌}
 use Rattle.answer.specs.Bits.{bits_answer}
 use Rattle.netlist.specs.Words.{words}
 use Rattle.instance.specs.Judging.{numbers_answer}

@@ -4,9 +4,17 @@
 // Of each register a round reads what entered 66 to 111 rounds ago, or, in the first 111 rounds, what was loaded. So no round
 // reads what entered in a round with an output, and all that is read entered in rounds of 14 gates.
 ghost use Rattle.std.specs.Prelude.{◌≡◌, ◌+◌, ◌*◌, ◌%◌, ◌≤◌, ◌<◌, length};
-ghost use Rattle.register.specs.InnerPlaces.{tail_at, registers_at, const_wire, wire_a, wire_b, start_c, wire_c, taps_of, places_a, places_b, places_c, ago_of, Small};
+ghost use Rattle.register.specs.InnerPlaces.{tail_at, registers_at, const_wire, start_c, entering, loaded, wire_of, places_of, Read, five_of, taps_of};
 
-// The wires of the five places that a round reads of a register, in the order of their numbers.
+// The registers by their first places: s1, s94 and s178.
+#[derive(Clone, Copy, Debug, PartialEq, Eq)]
+enum Register {
+    A,
+    B,
+    C,
+}
+
+// Of the five places that a round reads of a register, in the order of their numbers, the wires or the places.
 #[derive(Clone, Copy)]
 pub(crate) struct Five {
     pub(crate) p: u32,
@@ -26,7 +34,98 @@ pub(crate) struct Taps {
     pub(crate) v: u32,
 }
 
+// The netlist for m bits under an IV.
+#[derive(Clone, Copy)]
+pub(crate) struct Netlist<'a> {
+    pub(crate) iv: &'a [u8],
+    pub(crate) m: u32,
+    ghost iv_whole: { length iv.now ≡ 128 },
+    ghost m_small: { m ≤ 64 },
+}
+
+// Its round n.
+#[derive(Clone, Copy)]
+pub(crate) struct Round<'a> {
+    pub(crate) net: Netlist<'a>,
+    pub(crate) n: u32,
+    ghost n_small: { n < 1216 },
+}
+
+impl Register {
+    // The place among a round's last ten gates of the one whose wire enters the register.
+    fn entering(self) -> u32
+        ensures { (result ≡ entering self) × (result ≤ 9) }
+    {
+        match self {
+            Register::A => 9,
+            Register::B => 3,
+            Register::C => 6,
+        }
+    }
+
+    // The places that a round reads, counted from 0: s66, s69, s91, s92, s93; s162, s171, s175, s176, s177; s243, s264,
+    // s286, s287, s288.
+    fn places(self) -> Five
+        ensures value { result ≡ places_of self }
+        ensures p_read { Read result.p }
+        ensures q_read { Read result.q }
+        ensures r_read { Read result.r }
+        ensures s_read { Read result.s }
+        ensures t_read { Read result.t }
+    {
+        match self {
+            Register::A => Five {
+                p: 65,
+                q: 68,
+                r: 90,
+                s: 91,
+                t: 92,
+            },
+            Register::B => Five {
+                p: 68,
+                q: 77,
+                r: 81,
+                s: 82,
+                t: 83,
+            },
+            Register::C => Five {
+                p: 65,
+                q: 86,
+                r: 108,
+                s: 109,
+                t: 110,
+            },
+        }
+    }
+}
+
+impl Five {
+    // f of each. Without the hints on inlining the early rounds' wires cost calls, and an eighth of the emission's time.
+    #[inline(always)]
+    fn map<F: Fn(u32) -> u32>(self, f: F) -> Five
+        requires p_asks { F.pre f self.p }
+        requires q_asks { F.pre f self.q }
+        requires r_asks { F.pre f self.r }
+        requires s_asks { F.pre f self.s }
+        requires t_asks { F.pre f self.t }
+        ensures p_is { F.post f self.p result.p }
+        ensures q_is { F.post f self.q result.q }
+        ensures r_is { F.post f self.r result.r }
+        ensures s_is { F.post f self.s result.s }
+        ensures t_is { F.post f self.t result.t }
+    {
+        Five {
+            p: f(self.p),
+            q: f(self.q),
+            r: f(self.r),
+            s: f(self.s),
+            t: f(self.t),
+        }
+    }
+}
+
 // The first of the last ten gates of round n, without output.
+#[tactic(auto, unfolding(crate::specs::InnerPlaces::tail_at))]
 fn tail_at(m: u32, n: u32) -> u32
     requires { (m ≤ 64) × (n ≤ 1151) }
     ensures value { result ≡ tail_at m n }
@@ -35,148 +134,118 @@ fn tail_at(m: u32, n: u32) -> u32
     134 + m + 14 * n
 }
 
-// The wire of an IV bit: ZERO or ONE.
-fn const_wire(iv: &[u8], m: u32, i: u32) -> u32
-    requires { (m ≤ 64) × (i < length iv.now) }
-    ensures { result ≡ const_wire iv.now m i }
-{
-    let at = i as usize;
-    if iv[at] == 0 { 128 + m } else { 129 + m }
-}
-
-// The wire at place j of a register before round n: what entered j + 1 rounds ago, or what was loaded.
-fn wire_a(m: u32, n: u32, j: u32) -> u32
-    requires { (m ≤ 64) × (n < 111) }
-    ensures { result ≡ wire_a m n j }
-{
-    if j < n {
-        tail_at(m, n - j - 1) + 9
-    } else {
-        j - n
+impl Round<'_> {
+    // The wire of an IV bit: ZERO or ONE.
+    #[tactic(auto, using(crate::proofs::Cases::const_zero, crate::proofs::Cases::const_one))]
+    fn const_wire(self, i: u32) -> u32
+        requires { i < 128 }
+        ensures { result ≡ const_wire self.entry.net.iv.now self.entry.net.m i }
+    {
+        let at = i as usize;
+        if self.net.iv[at] == 0 {
+            128 + self.net.m
+        } else {
+            129 + self.net.m
+        }
     }
-}
 
-fn wire_b(iv: &[u8], m: u32, n: u32, j: u32) -> u32
-    requires { Small iv.now m n 111 × (j < 84) }
-    ensures { result ≡ wire_b iv.now m n j }
-{
-    if j < n {
-        tail_at(m, n - j - 1) + 3
-    } else {
-        const_wire(iv, m, j - n)
+    // What was loaded into the third register: 44 bits of the IV, 66 ones, a zero.
+    #[tactic(auto, using(crate::proofs::Cases::c_iv, crate::proofs::Cases::c_ones, crate::proofs::Cases::c_zero))]
+    fn start_c(self, i: u32) -> u32
+        ensures { result ≡ start_c self.entry.net.iv.now self.entry.net.m i }
+    {
+        if i < 44 {
+            self.const_wire(84 + i)
+        } else {
+            if i < 110 {
+                129 + self.net.m
+            } else {
+                128 + self.net.m
+            }
+        }
     }
-}
 
-// What was loaded into the third register: 44 bits of the IV, 66 ones, a zero.
-fn start_c(iv: &[u8], m: u32, i: u32) -> u32
-    requires { (m ≤ 64) × (length iv.now ≡ 128) }
-    ensures { result ≡ start_c iv.now m i }
-{
-    if i < 44 {
-        const_wire(iv, m, 84 + i)
-    } else {
-        if i < 110 { 129 + m } else { 128 + m }
+    // What was loaded into a register.
+    fn loaded(self, register: Register, i: u32) -> u32
+        requires { i < 111 }
+        ensures { result ≡ loaded register self.entry.net.iv.now self.entry.net.m i }
+    {
+        match register {
+            Register::A => i,
+            Register::B => self.const_wire(i),
+            Register::C => self.start_c(i),
+        }
     }
-}
 
-fn wire_c(iv: &[u8], m: u32, n: u32, j: u32) -> u32
-    requires { Small iv.now m n 111 }
-    ensures { result ≡ wire_c iv.now m n j }
-{
-    if j < n {
-        tail_at(m, n - j - 1) + 6
-    } else {
-        start_c(iv, m, j - n)
+    // That a round is one of the first 111 stays a clause of three functions: a type for these would repeat Round for one fact.
+    // The wire at place j of a register before one of the first 111 rounds: what entered j + 1 rounds ago, or what was
+    // loaded.
+    #[tactic(auto, using(crate::proofs::Cases::wire_new, crate::proofs::Cases::wire_old))]
+    fn wire(self, register: Register, j: u32) -> u32
+        requires { (self.n < 111) × Read j }
+        ensures { result ≡ wire_of register self.entry.net.iv.now self.entry.net.m self.entry.n j }
+    {
+        if j < self.n {
+            tail_at(self.net.m, self.n - j - 1) + register.entering()
+        } else {
+            self.loaded(register, j - self.n)
+        }
     }
-}
 
-// s66, s69, s91, s92, s93
-fn five_a(m: u32, n: u32) -> Five
-    requires { (m ≤ 64) × (n < 111) }
-    ensures { result ≡ places_a m n }
-{
-    Five {
-        p: wire_a(m, n, 65),
-        q: wire_a(m, n, 68),
-        r: wire_a(m, n, 90),
-        s: wire_a(m, n, 91),
-        t: wire_a(m, n, 92),
+    // The wires that one of the first 111 rounds reads of a register.
+    #[inline(always)]
+    fn early_five(self, register: Register) -> Five
+        requires { self.n < 111 }
+        ensures { result ≡ five_of register (registers_at self.entry.net.iv.now self.entry.net.m self.entry.n) }
+    {
+        register.places().map(|j| self.wire(register, j))
     }
-}
 
-// s162, s171, s175, s176, s177
-fn five_b(iv: &[u8], m: u32, n: u32) -> Five
-    requires { Small iv.now m n 111 }
-    ensures { result ≡ places_b iv.now m n }
-{
-    Five {
-        p: wire_b(iv, m, n, 68),
-        q: wire_b(iv, m, n, 77),
-        r: wire_b(iv, m, n, 81),
-        s: wire_b(iv, m, n, 82),
-        t: wire_b(iv, m, n, 83),
+    // The wires that a later round reads: all entered in rounds of 14 gates.
+    fn late_five(self, register: Register) -> Five
+        requires { 111 ≤ self.n }
+        ensures { result ≡ five_of register (registers_at self.entry.net.iv.now self.entry.net.m self.entry.n) }
+    {
+        let enters = 134 + self.net.m + 14 * self.n + register.entering();
+        register.places().map(|j| enters - 14 * (j + 1))
     }
-}
 
-// s243, s264, s286, s287, s288
-fn five_c(iv: &[u8], m: u32, n: u32) -> Five
-    requires { Small iv.now m n 111 }
-    ensures { result ≡ places_c iv.now m n }
-{
-    Five {
-        p: wire_c(iv, m, n, 65),
-        q: wire_c(iv, m, n, 86),
-        r: wire_c(iv, m, n, 108),
-        s: wire_c(iv, m, n, 109),
-        t: wire_c(iv, m, n, 110),
+    // The bit of K and of IV that leaves K* and IV* in the round: 127, and one less, modulo 128, in each further round.
+    fn leaving(self) -> u32
+        ensures { result ≡ (127 + 127 * self.entry.n) % 128 }
+    {
+        (127 + 127 * self.n) % 128
     }
-}
 
-// The bit of K and of IV that leaves K* and IV* in round n: 127, and one less, modulo 128, in each further round.
-fn leaving(n: u32) -> u32
-    requires { n < 1216 }
-    ensures { result ≡ (127 + 127 * n) % 128 }
-{
-    (127 + 127 * n) % 128
-}
-
-// What one of the first 111 rounds reads.
-pub(crate) fn early_taps(iv: &[u8], m: u32, n: u32) -> Taps
-    requires { Small iv.now m n 111 }
-    ensures { result ≡ taps_of (registers_at iv.now m n) }
-{
-    let a = five_a(m, n);
-    let b = five_b(iv, m, n);
-    let c = five_c(iv, m, n);
-    let k = leaving(n);
-    let v = const_wire(iv, m, k);
-    Taps { a, b, c, k, v }
-}
-
-// What entered p, q, r, s and t rounds ago, where x enters now.
-fn ago(x: u32, p: u32, q: u32, r: u32, s: u32, t: u32) -> Five
-    requires { (p ≤ 111) × (q ≤ 111) × (r ≤ 111) × (s ≤ 111) × (t ≤ 111) × (14 * 111 ≤ x) }
-    ensures { result ≡ ago_of x p q r s t }
-{
-    Five {
-        p: x - 14 * p,
-        q: x - 14 * q,
-        r: x - 14 * r,
-        s: x - 14 * s,
-        t: x - 14 * t,
+    // What one of the first 111 rounds reads.
+    #[tactic(auto, using(crate::proofs::Places::taps_are))]
+    pub(crate) fn early_taps(self) -> Taps
+        requires { self.n < 111 }
+        ensures { result ≡ taps_of (registers_at self.entry.net.iv.now self.entry.net.m self.entry.n) }
+    {
+        let k = self.leaving();
+        Taps {
+            a: self.early_five(Register::A),
+            b: self.early_five(Register::B),
+            c: self.early_five(Register::C),
+            k,
+            v: self.const_wire(k),
+        }
     }
-}
 
-// What a later round reads: s66 entered 66 rounds ago, s162 69 rounds ago, and so on.
-pub(crate) fn late_taps(iv: &[u8], m: u32, n: u32) -> Taps
-    requires { Small iv.now m n 1216 × (111 ≤ n) }
-    ensures { result ≡ taps_of (registers_at iv.now m n) }
-{
-    let u = 134 + m + 14 * n;
-    let a = ago(u + 9, 66, 69, 91, 92, 93);
-    let b = ago(u + 3, 69, 78, 82, 83, 84);
-    let c = ago(u + 6, 66, 87, 109, 110, 111);
-    let k = leaving(n);
-    let v = const_wire(iv, m, k);
-    Taps { a, b, c, k, v }
+    // What a later round reads. It is apart from early_taps since a test in each round takes a third longer.
+    #[tactic(auto, using(crate::proofs::Places::taps_are))]
+    pub(crate) fn late_taps(self) -> Taps
+        requires { 111 ≤ self.n }
+        ensures { result ≡ taps_of (registers_at self.entry.net.iv.now self.entry.net.m self.entry.n) }
+    {
+        let k = self.leaving();
+        Taps {
+            a: self.late_five(Register::A),
+            b: self.late_five(Register::B),
+            c: self.late_five(Register::C),
+            k,
+            v: self.const_wire(k),
+        }
+    }
 }

@@ -1,8 +1,8 @@
 -- Files of port frames and how they are judged: docs/RULES.md, "Frames", with its numbers. What a frame holds besides its
 -- mark and its IV is no matter here.
+use Rattle.answer.specs.declared.Reason.TheVariants.{Frame, Order}
 use Rattle.std.specs.Prelude.{ℕ, zero, suc, ◌+◌, ◌*◌, ◌/◌, Bool, true, false, not, List, length, ◌==◌, nat_le, nat_lt, slice_index}
-use Rattle.answer.specs.declared.Answer.{Answer}
-use Rattle.answer.specs.Answers.{◌▹◌, refuse, each}
+use Rattle.answer.specs.Answers.{Answer, ◌▹◌, refuse, each}
 use Rattle.answer.specs.Choose.{choose}
 use Rattle.port.specs.Bytes.{value_at}
 
@@ -50,7 +50,7 @@ iv_word_at s p = choose (nat_le (p + 8) (length s)) (value_at 256 s p 8) 0
 
 -- at the frame's start: 15, bad mark or cut frame; then 16, IV not above the one before
 unfoldable pub frame_answer : ℕ → List ℕ → ℕ → Answer
-frame_answer l s k = refuse 15 l (start k) (not (frame_begins s (start k))) ▹ refuse 16 l (start k) (not (rises s k))
+frame_answer l s k = refuse Frame l (start k) (not (frame_begins s (start k))) ▹ refuse Order l (start k) (not (rises s k))
 
 -- the whole file, in file order
 unfoldable pub file_answer : ℕ → List ℕ → Answer

@@ -2,38 +2,25 @@
 // What a frame holds besides is no matter here.
 #![tactic(auto)]
 
-ghost use Rattle.std.specs.Prelude.{◌≡◌, ◌+◌, ◌*◌, ◌/◌, ◌%◌, ◌^◌, ◌<◌, ◌≤◌, length, nat_lt};
-ghost use Rattle.answer.specs.declared.Answer.{Answer};
+ghost use Rattle.std.specs.Prelude.{◌≡◌, ◌+◌, ◌*◌, ◌/◌, ◌^◌, ◌<◌, ◌≤◌, length, nat_lt, Ok};
 ghost use Rattle.answer.specs.Answers.{each};
 ghost use Rattle.port.specs.Bytes.{value_at};
-ghost use Rattle.sequence.specs.Files.{frame_size, frame_begins, iv_word_at, frame_answer, file_answer};
+ghost use Rattle.sequence.specs.Files.{frame_size, frame_begins, iv_number, iv_word_at, frame_answer, file_answer};
 
-use answer::Answer;
+use answer::{Answer, Reason};
 
 // The bytes of a frame.
 pub const FRAME_SIZE: usize = 26;
 
 // "PT", the low byte first.
-const MARK: u64 = 21584;
-
-fn wide(x: u8) -> u64
-    ensures { (result ≡ x) × (result < 256) }
-{
-    x as u64
-}
+const MARK: u16 = 21584;
 
 // The word that eight bytes from a place on make.
 fn eight_bytes(s: &[u8], at: usize) -> u64
     requires { at + 8 ≤ length s.now }
     ensures { result ≡ value_at 256 s.now at 8 }
 {
-    let mut x: u64 = 0;
-    let mut i: usize = 0;
-    while i < 8 {
-        x = x * 256 + wide(s[at + i]);
-        i += 1;
-    }
-    x
+    u64::from_be_bytes(s[at..at + 8].try_into().unwrap())
 }
 
 // The same for any place: 0 where there are not eight bytes.
@@ -54,73 +41,91 @@ fn marked(s: &[u8], at: usize) -> bool
     requires { at + frame_size ≤ length s.now }
     ensures { result ≡ frame_begins s.now at }
 {
-    wide(s[at]) + wide(s[at + 1]) * 256 == MARK
+    u16::from_le_bytes([s[at], s[at + 1]]) == MARK
 }
 
-// Whether an IV, in two words, is above another: the high word is, or it is as high and the low word is above. The low
-// word's part is a carry into the high word, so that nothing branches on whether the high words are equal, which in a
-// file can be as chance has it. A carry past the largest word leaves a sum below it, and then the IV is above.
+// An IV, in two words, as one number. Two numbers are compared by a borrow from the low words, so that nothing branches
+// on whether the high words are equal, which in a file can be as chance has it.
+fn number(high: u64, low: u64) -> u128
+    ensures { result ≡ high * 2 ^ 64 + low }
+{
+    (u128::from(high) << 64) + u128::from(low)
+}
+
+// The IV of frame k.
+#[tactic(auto, using(crate::proofs::Judged::iv_read))]
+fn iv(s: &[u8], k: usize) -> u128
+    requires { frame_size * k + frame_size ≤ length s.now }
+    ensures { result ≡ iv_number s.now k }
+{
+    let at = FRAME_SIZE * k;
+    number(eight_bytes(s, at + 2), eight_bytes(s, at + 10))
+}
+
+// Whether an IV is above the one before.
+fn above(before: u128, iv: u128) -> bool
+    ensures { result ≡ nat_lt before iv }
+{
+    before < iv
+}
+
+// The same of two IVs of two words each, as `word` gives them: a public call, which takes any words.
 pub fn iv_above(p0: u64, p1: u64, v0: u64, v1: u64) -> bool
     ensures { result ≡ nat_lt (p0 * 2 ^ 64 + p1) (v0 * 2 ^ 64 + v1) }
 {
-    let low: u64 = if p1 < v1 { 1 } else { 0 };
-    let sum = std::num::wrapping_add_u64(v0, low);
-    if p0 < sum {
-        return true;
-    }
-    sum < v0
+    above(number(p0, p1), number(v0, v1))
 }
 
-// 15 and 16 of the frames from the second on, of those that end by `whole`. The IV before is carried along in two words.
-fn later_frames(s: &[u8], whole: usize, list: u32) -> Answer
-    requires { (whole % frame_size ≡ 0) × (frame_size ≤ whole) × (whole ≤ length s.now) × (frame_answer list s.now 0 ≡ Answer.Done) }
-    ensures { result ≡ each (whole / frame_size) (frame_answer list s.now) }
+// 15 and 16 of the frames from the second on, of the first `count`. The IV before is carried along. s stays the whole
+// file, here and below: `frame_answer` judges a frame at its place in it.
+#[tactic(auto, using(answer::proofs::Rows::each_stop, answer::proofs::Rows::each_more, answer::proofs::Rows::each_all, answer::proofs::Rows::each_none, crate::proofs::Judged::frame_bad, crate::proofs::Judged::frame_low, crate::proofs::Judged::frame_good, crate::proofs::Judged::rises_carried))]
+fn later_frames(s: &[u8], count: usize, list: u32) -> Answer
+    requires some { 1 ≤ count }
+    requires there { frame_size * count ≤ length s.now }
+    requires first { frame_answer list s.now 0 ≡ Ok tt }
+    ensures { result ≡ each count (frame_answer list s.now) }
 {
-    let mut p0 = eight_bytes(s, 2);
-    let mut p1 = eight_bytes(s, 10);
-    let mut at: usize = FRAME_SIZE;
-    while at < whole {
+    let mut before = iv(s, 0);
+    for k in 1..count {
+        let at = FRAME_SIZE * k;
         if !marked(s, at) {
-            return answer::refused(answer::FRAME, list, at);
+            return answer::refused(Reason::Frame, list, at);
         }
-        let v0 = eight_bytes(s, at + 2);
-        let v1 = eight_bytes(s, at + 10);
-        if !iv_above(p0, p1, v0, v1) {
-            return answer::refused(answer::ORDER, list, at);
+        let next = iv(s, k);
+        if !above(before, next) {
+            return answer::refused(Reason::Order, list, at);
         }
-        p0 = v0;
-        p1 = v1;
-        at += FRAME_SIZE;
+        before = next;
     }
-    Answer::Done
+    Ok(())
 }
 
-// 15 and 16 of the frames that end by `whole`.
-fn whole_frames(s: &[u8], whole: usize, list: u32) -> Answer
-    requires { (whole % frame_size ≡ 0) × (whole ≤ length s.now) }
-    ensures { result ≡ each (whole / frame_size) (frame_answer list s.now) }
+// 15 and 16 of the first `count` frames.
+#[tactic(auto, using(answer::proofs::Rows::each_stop, answer::proofs::Rows::each_none, crate::proofs::Judged::frame_bad, crate::proofs::Judged::first_good))]
+fn whole_frames(s: &[u8], count: usize, list: u32) -> Answer
+    requires { frame_size * count ≤ length s.now }
+    ensures { result ≡ each count (frame_answer list s.now) }
 {
-    if whole == 0 {
-        return Answer::Done;
+    if count == 0 {
+        return Ok(());
     }
     if !marked(s, 0) {
-        return answer::refused(answer::FRAME, list, 0);
+        return answer::refused(Reason::Frame, list, 0);
     }
-    later_frames(s, whole, list)
+    later_frames(s, count, list)
 }
 
 // 15 and 16 of a whole file; what is left behind the whole frames is a cut one.
+#[tactic(auto, using(crate::proofs::Judged::file_stop, crate::proofs::Judged::file_cut, crate::proofs::Judged::file_end))]
 pub fn file(s: &[u8], list: u32) -> Answer
     ensures { result ≡ file_answer list s.now }
 {
     let len = s.len();
-    let whole = len - len % FRAME_SIZE;
-    let r = whole_frames(s, whole, list);
-    let Answer::Done = r else {
-        return r;
-    };
+    let count = len / FRAME_SIZE;
+    whole_frames(s, count, list)?;
+    let whole = FRAME_SIZE * count;
     if whole < len {
-        return answer::refused(answer::FRAME, list, whole);
+        return answer::refused(Reason::Frame, list, whole);
     }
-    Answer::Done
+    Ok(())
 }

@@ -14,8 +14,8 @@ use Rattle.cells.specs.Cells.{threshold_net}
 use Rattle.cells.proofs.Facts.{threshold_inputs, threshold_outputs, threshold_valid, threshold_gates_64}
 use Rattle.emit.specs.Emit.{no_threshold}
 use Rattle.emit.proofs.Shapes.{shape_good}
-use Rattle.line.specs.declared.Asked.{Asked}
-use Rattle.line.specs.declared.Asked.TheVariants.{Line, Nothing}
+use Rattle.std.specs.Prelude.{Option, Some, None}
+use Rattle.line.specs.declared.Line.{Line}
 use Rattle.line.specs.Decimal.{decimal}
 use Rattle.line.specs.Asked.{asked_of}
 use Rattle.line.proofs.Decimals.{decimal_4}
@@ -134,7 +134,7 @@ depth_most d n ok =
       | no h ↦ omega (arith, depth_none d n ok (omega arith))
     ]
 
-pub netlist_fits : (d n : ℕ) → no_threshold d n ≡ false → length (title_line d n ++ net_text (threshold_net d n)) ≤ 131072
+netlist_fits : (d n : ℕ) → no_threshold d n ≡ false → length (title_line d n ++ net_text (threshold_net d n)) ≤ 131072
 netlist_fits d n ok =
     let s = shape_good d n ok in
     let t = title_most d n (omega arith) (omega arith) in
@@ -143,18 +143,18 @@ netlist_fits d n ok =
     net_most (threshold_net d n) (threshold_valid d n s.1 s.2) i (threshold_gates_64 d n s.1 s.2 s.0) (threshold_outputs d n) (depth_most d n ok) in
     omega (arith, two (title_line d n) (net_text (threshold_net d n)))
 
-threshold-fits : (d n : ℕ) → length (threshold_text d n) ≤ 131072
+pub threshold_fits : (d n : ℕ) → length (threshold_text d n) ≤ 131072
 unfolding threshold_text
-threshold-fits d n = go (no_threshold d n) refl
+threshold_fits d n = go (no_threshold d n) refl
   where
     go : (b : Bool) → no_threshold d n ≡ b → length (choose b refusal (title_line d n ++ net_text (threshold_net d n))) ≤ 131072
     go true e = omega arith
     go false e = netlist_fits d n e
 
-text_fits : (a : Asked) → length (text_of a) ≤ 131072
+text_fits : (a : Option Line) → length (text_of a) ≤ 131072
 unfolding text_of
-text_fits Nothing = omega arith
-text_fits (Line d n) = threshold-fits d n
+text_fits None = omega arith
+text_fits (Some a) = threshold_fits a.d a.n
 
 -- whatever the input, 131,072 bytes are room enough
 pub printed-fits : (input : List ℕ) → length (printed input) ≤ 131072

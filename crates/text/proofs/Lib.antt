@@ -1,4 +1,3 @@
-pub mod Parts
 pub mod Netlists
 pub mod Thresholds
 pub mod Fits

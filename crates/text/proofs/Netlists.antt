@@ -1,37 +1,29 @@
 -- Lines of gates and outputs, read from a netlist's words.
-use Prim.Native.Nat.{ℕ, zero, suc, ◌+◌, ◌-◌, ◌≤◌, ◌<◌}
-use mathlib.Core.Path.{◌≡◌, refl, ap, ◌∙◌}
+use Prim.Native.Nat.{ℕ, suc, ◌+◌, ◌-◌, ◌≤◌, ◌<◌}
+use mathlib.Core.Path.{◌≡◌, ap}
 use mathlib.Core.List.{List, [], ◌++◌}
 use native.Mathlib.Omega.{arith}
 use native.Mathlib.Numerals.{add-one}
-use lib.ListN.{length, get_or, drop, drop_of_length-le}
+use lib.ListN.{length, get_or, drop, length-append, drop_of_length-le}
 use lib.Seq.{drop-cons}
-use Rattle.netlist.specs.declared.gate.Gate.{Gate}
-use Rattle.netlist.specs.Gates.{gate_of}
 use Rattle.netlist.specs.Net.{Net, depth, mults}
-use Rattle.netlist.specs.declared.counts.Counts.{Counts}
-use Rattle.netlist.specs.Words.{header_words, gate_stride, gate_place, counts_of, gate_at, gates_at, words}
+use Rattle.netlist.specs.Words.{header_words, gate_place, gate_at, gates_at, words}
 use Rattle.netlist.proofs.Words.{net_of-words}
 use Rattle.text.specs.Text.{sizes, costs, gate_line, gate_lines, out_line, out_lines, net_text}
-use Rattle.text.specs.Inner.{counted_text, words_text}
-
-pub decoded_gate : (ws : List ℕ) (s k a b c : ℕ) (g : Gate) → k ≡ get_or ws s 0 → a ≡ get_or ws (s + 1) 0 → b ≡ get_or ws (s + 2) 0
-    → c ≡ get_or ws (s + 3) 0 → g ≡ gate_of k a b c → g ≡ gate_at ws s
-decoded_gate ws s k a b c g e₀ e₁ e₂ e₃ h = h ∙ (λ i. gate_of (e₀ i) (e₁ i) (e₂ i) (e₃ i))
+use Rattle.text.specs.Inner.{Room, words_text}
 
 -- the next gate, and the rest
-pub gates_turn : (ws : List ℕ) (s w n : ℕ) (g : Gate) → 0 < n → g ≡ gate_at ws s
-    → gate_lines w (gates_at ws s n) ≡ gate_line w g ++ gate_lines (w + 1) (gates_at ws (s + gate_stride) (n - 1))
+pub gates_turn : (ws : List ℕ) (w i n : ℕ) → i < n → gate_lines (w + i) (gates_at ws (gate_place i) (n - i)) ≡ gate_line (w + i) (gate_at ws (gate_place i)) ++ gate_lines (w + (i + 1)) (gates_at ws (gate_place (i + 1)) (n - (i + 1)))
 unfolding gate_lines
-gates_turn ws s w zero g h e = absurd (omega arith)
-gates_turn ws s w (suc n) g h e =
-    let z : suc n - 1 ≡ n = omega arith in
-    rw (add-one w, z, e)
+gates_turn ws w i n h =
+    let z : n - i ≡ suc (n - (i + 1)) = omega arith in
+    let y : suc (w + i) ≡ w + (i + 1) = omega arith in
+    let x : gate_place i + 4 ≡ gate_place (i + 1) = omega arith in
+    rw (z, y, x)
 
-pub gates_none : (ws : List ℕ) (s w n : ℕ) → n ≤ 0 → gate_lines w (gates_at ws s n) ≡ []
+pub gates_none : (ws : List ℕ) (w i n : ℕ) → n ≤ i → gate_lines w (gates_at ws (gate_place i) (n - i)) ≡ []
 unfolding gate_lines
-gates_none ws s w zero h = refl
-gates_none ws s w (suc n) h = absurd (omega arith)
+gates_none ws w i n h = let z : n - i ≡ 0 = omega arith in rw z
 
 -- the next output, and the rest
 pub outs_turn : (ws : List ℕ) (i : ℕ) → i < length ws → out_lines (drop i ws) ≡ out_line (get_or ws i 0) ++ out_lines (drop (i + 1) ws)
@@ -42,14 +34,15 @@ pub outs_none : (ws : List ℕ) (i : ℕ) → length ws ≤ i → out_lines (dro
 unfolding out_lines
 outs_none ws i h = rw (drop_of_length-le ws h)
 
--- counts read from the header
-pub counted : (ws : List ℕ) (c : Counts) (D M : ℕ) → c ≡ counts_of ws → counted_text ws c D M ≡ words_text ws D M
-unfolding words_text
-counted ws c D M e = ap (λ (c : Counts). counted_text ws c D M) e
+-- For a loop: text and rest make what start and whole make. There is room for the first part of the rest.
+pub part_room : (text rest start whole part more : List ℕ) → text ++ rest ≡ start ++ whole → rest ≡ part ++ more → Room start whole
+    → Room text part
+part_room text rest start whole part more e f h =
+    omega (arith, ap length e, length-append text rest, length-append start whole, ap length f, length-append part more)
 
 -- a netlist's words, and the netlist
 pub words_text_lem : (net : Net) (D M : ℕ) → D ≡ depth net → M ≡ mults net → words_text (words net) D M ≡ net_text net
-unfolding words_text counted_text net_text
+unfolding words_text net_text
 words_text_lem net D M e f =
     let gs : gates_at (words net) header_words (length net.gates) ≡ net.gates = ap Net.gates (net_of-words net) in
     let os : drop (gate_place (length net.gates)) (words net) ≡ net.outs = ap Net.outs (net_of-words net) in

@@ -6,7 +6,7 @@ use Rattle.netlist.specs.Net.{Net}
 use Rattle.cells.proofs.Samples.{two_of_three}
 use Rattle.emit.specs.Emit.{no_threshold}
 use Rattle.line.specs.Decimal.{decimal_digits, decimal}
-use Rattle.line.specs.Asked.{is_digit, number_at, ended_by, followed, asked_of}
+use Rattle.line.specs.Asked.{digit_at, number_of, number_at, ended_by, followed, asked_of}
 use Rattle.text.specs.Text.{named, pair, triple, title_line, sizes, costs, gate_text, gate_line, gate_lines, out_line, out_lines, net_text, threshold_text, text_of, printed}
 
 -- 2 3
@@ -34,5 +34,5 @@ example_text =
     ∷ []
 
 pub example-printed : printed example ≡ example_text
-unfolding is_digit number_at ended_by followed asked_of decimal_digits decimal named pair triple title_line sizes costs gate_text gate_line gate_lines out_line out_lines net_text no_threshold threshold_text text_of printed
+unfolding digit_at number_of number_at ended_by followed asked_of decimal_digits decimal named pair triple title_line sizes costs gate_text gate_line gate_lines out_line out_lines net_text no_threshold threshold_text text_of printed
 example-printed = ap (λ (net : Net). title_line 2 3 ++ net_text net) two_of_three

@@ -1,27 +1,16 @@
--- Inner: only contracts of private functions cite this. Text stored into a list of bytes, part after part; the printed text
--- from a netlist's words.
-use Rattle.std.specs.Prelude.{ℕ, ◌+◌, ◌≤◌, ◌≡◌, List, ◌++◌, length, drop}
-use Rattle.std.proofs.lemmas.List.Edits.{sets}
-use Rattle.netlist.specs.declared.counts.Counts.{Counts}
-use Rattle.netlist.specs.Words.{header_words, gate_place, counts_of, gates_at}
+-- Inner: only contracts of private functions cite this. Text with room after it; the printed text from a netlist's words.
+use Rattle.std.specs.Prelude.{ℕ, ◌+◌, ◌≤◌, List, ◌++◌, length, drop}
+use Rattle.netlist.specs.Words.{header_words, gate_place, inputs_of, gates_of, outputs_of, gates_at}
 use Rattle.text.specs.Text.{sizes, costs, gate_lines, out_lines}
 
--- a text fits from byte at on
-pub record Room (text out : List ℕ) (at : ℕ) : Type 0 where
-  pub fits : at + length text ≤ length out
+-- there is room for more after a text
+abbrev pub Room : List ℕ → List ℕ → Type 0
+Room text more = length text + length more ≤ 131072
 
--- the text was stored from byte at on, and r is the place past it
-pub record WroteText (text out : List ℕ) (at : ℕ) (out' : List ℕ) (r : ℕ) : Type 0 where
-  pub bytes : out' ≡ sets out at text
-  pub past : r ≡ at + length text
-
--- what is printed of a netlist, from its words: c are the counts of its header, D its depth, M its multiplications
-unfoldable pub counted_text : List ℕ → Counts → ℕ → ℕ → List ℕ
-counted_text ws c D M =
-    sizes c.inputs c.gates c.outputs
-    ++ costs D M
-    ++ gate_lines c.inputs (gates_at ws header_words c.gates)
-    ++ out_lines (drop (gate_place c.gates) ws)
-
+-- what is printed of a netlist, from its words: D is its depth, M its multiplications
 unfoldable pub words_text : List ℕ → ℕ → ℕ → List ℕ
-words_text ws D M = counted_text ws (counts_of ws) D M
+words_text ws D M =
+    sizes (inputs_of ws) (gates_of ws) (outputs_of ws)
+    ++ costs D M
+    ++ gate_lines (inputs_of ws) (gates_at ws header_words (gates_of ws))
+    ++ out_lines (drop (gate_place (gates_of ws)) ws)

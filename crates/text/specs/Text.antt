@@ -1,8 +1,9 @@
 -- What the printing program prints. docs/RULES.md, "The printing program": a title with d and n; counts; a gate's wire,
 -- kind and used operands; each output wire. Bytes are in comments as they read.
-use Rattle.std.specs.Prelude.{ℕ, suc, ◌≡◌, List, [], ◌∷◌, ◌++◌, length}
+use Rattle.std.specs.Prelude.{ℕ, suc, ◌≡◌, List, [], ◌∷◌, ◌++◌, length, Option, Some, None, Result}
 use Rattle.answer.specs.Choose.{choose}
-use Rattle.answer.specs.Answers.{if_done}
+use Rattle.answer.specs.declared.Refusal.{Refusal}
+use Rattle.answer.specs.Answers.{giving}
 use Rattle.answer.specs.Fronts.{left}
 use Rattle.netlist.specs.declared.gate.Gate.{Gate}
 use Rattle.netlist.specs.declared.gate.Gate.TheVariants.{Zero, One, Not, Xor, And, Mux}
@@ -10,11 +11,9 @@ use Rattle.netlist.specs.Net.{Net, depth, mults}
 use Rattle.answer.specs.Judges.{room_answer}
 use Rattle.cells.specs.Cells.{threshold_net}
 use Rattle.emit.specs.Emit.{no_threshold}
-use Rattle.line.specs.declared.Asked.{Asked}
-use Rattle.line.specs.declared.Asked.TheVariants.{Line, Nothing}
+use Rattle.line.specs.declared.Line.{Line}
 use Rattle.line.specs.Decimal.{decimal}
 use Rattle.line.specs.Asked.{asked_of}
-use Rattle.text.specs.declared.Printing.{Printing}
 
 -- "\n", " "
 abbrev pub newline : List ℕ
@@ -90,21 +89,20 @@ refusal = 114 ∷ 101 ∷ 102 ∷ 117 ∷ 115 ∷ 101 ∷ 100 ∷ 32 ∷ 49 ∷ 
 unfoldable pub threshold_text : ℕ → ℕ → List ℕ
 threshold_text d n = choose (no_threshold d n) refusal (title_line d n ++ net_text (threshold_net d n))
 
-unfoldable pub text_of : Asked → List ℕ
-text_of Nothing = refusal
-text_of (Line d n) = threshold_text d n
+unfoldable pub text_of : Option Line → List ℕ
+text_of None = refusal
+text_of (Some a) = threshold_text a.d a.n
 
 -- what is printed on a whole input
 unfoldable pub printed : List ℕ → List ℕ
 printed input = text_of (asked_of input)
 
--- What a call that was to give a text returns, and what it leaves in the result: the rules' 8 where there is no room.
--- Lists: 1 the input, 2 the result.
-pub record Kept (text old : List ℕ) (r : Printing) (new : List ℕ) : Type 0 where
-  pub answered : r.answer ≡ room_answer 2 (length old) (length text)
-  pub sized : r.size ≡ if_done r.answer (length text)
-  pub written : new ≡ left r.answer text old
+-- What a call that was to give a text returns, the text's length where there is room, and what it leaves in the result: the
+-- rules' 8 where there is none. Lists: 1 the input, 2 the result.
+pub record Kept (text old : List ℕ) (r : Result ℕ Refusal) (new : List ℕ) : Type 0 where
+  pub answered : r ≡ giving (room_answer 2 (length old) (length text)) (length text)
+  pub written : new ≡ left (room_answer 2 (length old) (length text)) text old
 
 -- a call that was to print for an input
-abbrev pub Printed : List ℕ → List ℕ → Printing → List ℕ → Type 0
+abbrev pub Printed : List ℕ → List ℕ → Result ℕ Refusal → List ℕ → Type 0
 Printed input old r new = Kept (printed input) old r new

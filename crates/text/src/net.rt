@@ -1,77 +1,74 @@
 // A netlist's words as text: its counts, its gates and its output wires.
-ghost use Rattle.std.specs.Prelude.{◌+◌, ◌≤◌, drop};
-ghost use Rattle.netlist.specs.Words.{inputs_of, gates_of};
+ghost use Rattle.std.specs.Prelude.{◌+◌, ◌≤◌, ◌≡◌, ◌++◌, length};
+ghost use Rattle.netlist.specs.Words.{gate_place, inputs_of, gates_of};
 ghost use Rattle.text.specs.Text.{title_line, sizes, costs, out_line, out_lines};
-ghost use Rattle.text.specs.Inner.{Room, WroteText, words_text};
+ghost use Rattle.text.specs.Inner.{Room, words_text};
 
-use crate::gates::put_gates;
-use crate::put::{put_bytes, put_named, put_pair};
+use crate::text::Text;
+use crate::threshold::Shape;
+use netlist::counts::Counts;
 use netlist::{GATE_STRIDE, HEADER_WORDS};
 
-pub(crate) fn put_title(out: &mut [u8], at: usize, d: u32, n: u32) -> usize
-    requires { Room (title_line d n) out.old at }
-    ensures { WroteText (title_line d n) out.old at out.new result }
-{
-    let i = put_pair(out, at, b"T ", d, n);
-    put_bytes(out, i, b"\n")
-}
-
-fn put_sizes(out: &mut [u8], at: usize, inputs: u32, gates: u32, outputs: u32) -> usize
-    requires { Room (sizes inputs gates outputs) out.old at }
-    ensures { WroteText (sizes inputs gates outputs) out.old at out.new result }
-{
-    let i = put_named(out, at, b"in ", inputs);
-    let j = put_named(out, i, b" gates ", gates);
-    put_named(out, j, b" out ", outputs)
-}
-
-fn put_costs(out: &mut [u8], at: usize, depth: u32, multiplications: u32) -> usize
-    requires { Room (costs depth multiplications) out.old at }
-    ensures { WroteText (costs depth multiplications) out.old at out.new result }
-{
-    let i = put_named(out, at, b" depth ", depth);
-    let j = put_named(out, i, b" mult ", multiplications);
-    put_bytes(out, j, b"\n")
-}
-
-fn put_output(out: &mut [u8], at: usize, wire: u32) -> usize
-    requires { Room (out_line wire) out.old at }
-    ensures { WroteText (out_line wire) out.old at out.new result }
-{
-    let i = put_named(out, at, b"out ", wire);
-    put_bytes(out, i, b"\n")
-}
-
-// The output wires are the words from a place to the end.
-fn put_outputs(out: &mut [u8], at: usize, words: &[u32], place: usize) -> usize
-    requires { Room (out_lines (drop place words.now)) out.old at }
-    ensures { WroteText (out_lines (drop place words.now)) out.old at out.new result }
-{
-    let mut next = at;
-    let mut i = place;
-    while i < words.len() {
-        next = put_output(out, next, words[i]);
-        i += 1;
+impl Text {
+    #[tactic(auto, unfolding(crate::specs::Text::title_line))]
+    pub(crate) fn title(&mut self, shape: Shape)
+        requires { Room self.old (title_line shape.d shape.n) }
+        ensures { self.new ≡ self.old ++ title_line shape.d shape.n }
+    {
+        self.pair(b"T ", shape.d, shape.n);
+        self.bytes(b"\n");
     }
-    next
-}
 
-pub(crate) fn put_net(
-    out: &mut [u8],
-    at: usize,
-    words: &[u32],
-    depth: u32,
-    multiplications: u32,
-) -> usize
-    requires words_bound { inputs_of words.now + gates_of words.now ≤ 65536 }
-    requires room { Room (words_text words.now depth multiplications) out.old at }
-    ensures { WroteText (words_text words.now depth multiplications) out.old at out.new result }
-{
-    let counts = netlist::counts::counts_of(words);
-    let inputs = counts.inputs;
-    let gates = counts.gates;
-    let i = put_sizes(out, at, inputs, gates, counts.outputs);
-    let j = put_costs(out, i, depth, multiplications);
-    let k = put_gates(out, j, words, inputs, gates);
-    put_outputs(out, k, words, HEADER_WORDS + GATE_STRIDE * (gates as usize))
+    #[tactic(auto, unfolding(crate::specs::Text::sizes))]
+    fn sizes(&mut self, counts: Counts)
+        requires { Room self.old (sizes counts.inputs counts.gates counts.outputs) }
+        ensures { self.new ≡ self.old ++ sizes counts.inputs counts.gates counts.outputs }
+    {
+        self.named(b"in ", counts.inputs);
+        self.named(b" gates ", counts.gates);
+        self.named(b" out ", counts.outputs);
+    }
+
+    #[tactic(auto, unfolding(crate::specs::Text::costs))]
+    fn costs(&mut self, depth: u32, multiplications: u32)
+        requires { Room self.old (costs depth multiplications) }
+        ensures { self.new ≡ self.old ++ costs depth multiplications }
+    {
+        self.named(b" depth ", depth);
+        self.named(b" mult ", multiplications);
+        self.bytes(b"\n");
+    }
+
+    #[tactic(auto, unfolding(crate::specs::Text::out_line))]
+    fn output(&mut self, wire: u32)
+        requires { Room self.old (out_line wire) }
+        ensures { self.new ≡ self.old ++ out_line wire }
+    {
+        self.named(b"out ", wire);
+        self.bytes(b"\n");
+    }
+
+    #[tactic(auto, using(crate::proofs::Netlists::outs_turn, crate::proofs::Netlists::outs_none, std::proofs::lemmas::Grind::common_steps))]
+    fn outputs(&mut self, wires: &[u32])
+        requires { Room self.old (out_lines wires.now) }
+        ensures { self.new ≡ self.old ++ out_lines wires.now }
+    {
+        for &wire in wires {
+            self.output(wire);
+        }
+    }
+
+    #[tactic(auto, unfolding(crate::specs::Inner::words_text))]
+    pub(crate) fn net(&mut self, words: &[u32], depth: u32, multiplications: u32)
+        requires words_bound { inputs_of words.now + gates_of words.now ≤ 65536 }
+        requires long { gate_place (gates_of words.now) ≤ length words.now }
+        requires room { Room self.old (words_text words.now depth multiplications) }
+        ensures { self.new ≡ self.old ++ words_text words.now depth multiplications }
+    {
+        let counts = netlist::counts::counts_of(words);
+        self.sizes(counts);
+        self.costs(depth, multiplications);
+        self.gates(words, counts.inputs, counts.gates);
+        self.outputs(&words[HEADER_WORDS + GATE_STRIDE * (counts.gates as usize)..]);
+    }
 }

@@ -1,10 +1,12 @@
 -- Kreyvium's rounds one after the other, and their output bits drawn into a word.
 use mathlib.Core.Path.{◌≡◌, ap, sym, ◌∙◌}
 use mathlib.Core.List.{List}
-use Prim.Native.Nat.{ℕ, zero, suc, ◌+◌, ◌*◌, ◌-◌, ◌≤◌}
+use Prim.Native.Nat.{ℕ, zero, suc, ◌+◌, ◌*◌, ◌-◌, ◌^◌, ◌<◌, ◌≤◌}
+use native.Mathlib.Nat.{pow-suc}
 use native.Mathlib.Numerals.{add-one}
 use native.Mathlib.Omega.{arith}
 use lib.ListN.{get_or}
+use lib.Pow.{pow_mono}
 use Rattle.kreyvium.specs.Kreyvium.{Registers, out_of, round_of, rounds, stream}
 use Rattle.kreyvium.specs.Words.{bit, tops}
 use Rattle.kreyvium.proofs.Bits.{bits_cons, get_d_bits}
@@ -41,3 +43,10 @@ drawn_more i z b s e d j (suc k) q = bit-above z b k (rw e (out_small (rounds i 
 pub drawn_all : (z : ℕ) (s : Registers ℕ) → Drawn 64 z s → (n : ℕ) → n ≤ 64 → tops n z ≡ stream n s
 unfolding Drawn
 drawn_all z s d = tops-stream z s (λ n h. d n (63 - n) (omega arith))
+
+-- a word that takes in one bit more
+pub turn_small : (done b i : ℕ) → done < 2 ^ i → b ≤ 1 → done * 2 + b < 2 ^ (i + 1)
+turn_small done b i h k = rw (add-one i, pow-suc) (omega arith)
+
+pub turn_room : (done i : ℕ) → i < 64 → done < 2 ^ i → done < 2 ^ 63
+turn_room done i h k = omega (arith, k, pow_mono {i = i} {j = 63} (omega arith))

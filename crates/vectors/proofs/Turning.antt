@@ -1,12 +1,13 @@
 -- A word's bits turned round one by one, and key and IV loaded so.
 use mathlib.Core.Path.{◌≡◌, refl, ap, ap₂, sym, ◌∙◌}
 use mathlib.Core.List.{List, [], ◌∷◌, ◌++◌, reverse, reverse_aux, reverse-append}
-use Prim.Native.Nat.{ℕ, suc, ◌+◌, ◌*◌, ◌-◌, ◌/◌, ◌%◌, ◌^◌, ◌≤◌, ◌<◌}
+use Prim.Native.Nat.{ℕ, zero, suc, ◌+◌, ◌*◌, ◌-◌, ◌/◌, ◌%◌, ◌^◌, ◌≤◌, ◌<◌}
 use native.Mathlib.Nat.{pow-suc}
 use native.Mathlib.Numerals.{add-one}
 use native.Mathlib.Omega.{arith}
 use lib.Pow.{pow_mono}
 use lib.ListN.{take, drop, replicate}
+use Rattle.std.specs.Int.{reverse_bits_onto}
 use Rattle.kreyvium.specs.Kreyvium.{Registers, loaded}
 use Rattle.kreyvium.specs.Words.{bits}
 use Rattle.kreyvium.proofs.Bits.{bits_cons}
@@ -47,11 +48,12 @@ turn_end x rest done i h k t =
     ∙ ap (λ (n : ℕ). reverse_aux (bits (64 - n) rest) (bits n done)) (sym e)
     ∙ t
 
-pub turn_small : (done b i : ℕ) → done < 2 ^ i → b ≤ 1 → done * 2 + b < 2 ^ (i + 1)
-turn_small done b i h k = rw (add-one i, pow-suc) (omega arith)
-
-pub turn_room : (done i : ℕ) → i < 64 → done < 2 ^ i → done < 2 ^ 63
-turn_room done i h k = omega (arith, k, pow_mono {i = i} {j = 63} (omega arith))
+-- the library's own walk from there on
+pub onto_turned : (x k rest done i : ℕ) → i + k ≡ 64 → Turned x rest done i → bits 64 (reverse_bits_onto k rest done) ≡ reverse (bits 64 x)
+unfolding reverse_bits_onto
+onto_turned x zero rest done i e t = turn_end x rest done i (omega arith) (omega arith) t
+onto_turned x (suc k) rest done i e t =
+    onto_turned x k (rest / 2) (done * 2 + rest % 2) (i + 1) (omega arith) (turn_step x rest done i (omega arith) t)
 
 -- Two words turned, and in the other order, are a key or an IV in reverse.
 pub both-turned : (x y x' y' : ℕ) → bits 64 x' ≡ reverse (bits 64 x) → bits 64 y' ≡ reverse (bits 64 y)

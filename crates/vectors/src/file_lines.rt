@@ -1,13 +1,11 @@
 // The rules' netlist file, a one-wire pass-through, written and read.
 use crate::text::{say, say_bytes, say_words};
-use answer::Answer;
 
 const PASS_THROUGH: [u32; 4] = [1, 0, 1, 0];
 
 fn print_read(bytes: &[u8]) {
     let mut words = [0u32; 4];
-    let r = file::read_file(bytes, &mut words);
-    let Answer::Done = r else {
+    let Ok(()) = file::read_file(bytes, &mut words) else {
         say(b"refused\n");
         return;
     };
@@ -18,8 +16,7 @@ fn print_read(bytes: &[u8]) {
 
 pub(crate) fn print() {
     let mut bytes = [0u8; 20];
-    let r = file::write_file(&PASS_THROUGH, &mut bytes);
-    let Answer::Done = r else {
+    let Ok(()) = file::write_file(&PASS_THROUGH, &mut bytes) else {
         say(b"refused\n");
         return;
     };

@@ -1,11 +1,11 @@
-// The filters' worked cases: 000's example of a triangle, the edge of FiLIP-144's threshold, and document
-// the rules' cases that are sums of monomials.
+// The filters' worked cases: 000's example of a triangle, the edge of FiLIP-144's threshold, and the
+// rules' cases that are sums of monomials.
 use crate::text::{say, say_bits, say_digit, say_number};
 
 fn line(source: &[u8], degrees: &[u8], x: &[u8]) {
     say(source);
     say(b" on ");
-    say_bits(x, x.len());
+    say_bits(x);
     say(b": ");
     say_digit(filter::sum_monomials(degrees, x));
     say(b"\n");
@@ -34,19 +34,12 @@ fn triangle() {
     triangle_line(&[1, 1, 1, 1, 1, 1, 1, 1, 1, 1]);
 }
 
-// Puts ones from a place to the end.
-fn put_ones(x: &mut [u8], from: usize) {
-    let mut i = from;
-    while i < x.len() {
-        x[i] = 1;
-        i += 1;
-    }
-}
-
 // FiLIP-144 on zeros and then ones, which stand among the 63 variables of its threshold.
 fn threshold_line(zeros: usize) {
     let mut x = [0u8; 144];
-    put_ones(&mut x, zeros);
+    for bit in x.iter_mut().skip(zeros) {
+        *bit = 1;
+    }
     say(b"rules, Monomials, FiLIP-144 on zeros and then ones from place ");
     say_number(zeros);
     say(b" of 144: ");

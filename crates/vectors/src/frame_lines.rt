@@ -2,7 +2,7 @@
 // The two of one file, under another key, are worked out from the rules bit by bit.
 use crate::text::{say, say_bits, say_bytes, say_number};
 use answer::Answer;
-use port::{Found, Made, Port};
+use port::{Field, Port};
 
 const KEY: [u8; 16] = [0, 1, 2, 3, 4, 5, 6, 7, 8, 9, 10, 11, 12, 13, 14, 15];
 
@@ -24,8 +24,7 @@ fn append_zeros(file: &[u8], frame: &mut [u8]) -> Answer {
 
 fn print_public() {
     let mut frame = [0u8; 26];
-    let r = append_zeros(&[], &mut frame);
-    let Answer::Done = r else {
+    let Ok(()) = append_zeros(&[], &mut frame) else {
         say(b"refused\n");
         return;
     };
@@ -37,15 +36,13 @@ fn print_public() {
 
 // Bit i of a list of bytes, the high bit of each first.
 fn bit_of(bytes: &[u8], i: usize) -> u8 {
-    let byte = answer::byte_at(bytes, i / 8);
+    let byte = answer::get_or(bytes, i / 8, 0);
     (byte >> ((7 - i % 8) as u32)) % 2
 }
 
 fn put_bits(bytes: &[u8], bits: &mut [u8]) {
-    let mut i: usize = 0;
-    while i < bits.len() {
-        bits[i] = bit_of(bytes, i);
-        i += 1;
+    for (i, bit) in bits.iter_mut().enumerate() {
+        *bit = bit_of(bytes, i);
     }
 }
 
@@ -63,15 +60,14 @@ fn say_port(port: Port) {
 }
 
 fn print_bits(port: Port, record: &mut [u8]) {
-    let r = port::bits(port, record);
-    let Answer::Done = r else {
+    let Ok(()) = port::bits(port, record) else {
         say(b"refused\n");
         return;
     };
     say(b"rules, Frames,");
     say_port(port);
     say(b": ");
-    say_bits(record, 64);
+    say_bits(record);
     say(b"\n");
 }
 
@@ -85,8 +81,7 @@ fn append(record: &[u8], iv: &[u8], file: &[u8], frame: &mut [u8]) -> Answer {
 
 // A frame behind a file.
 fn print_frame(record: &[u8], iv: &[u8], file: &[u8], frame: &mut [u8]) {
-    let r = append(record, iv, file, frame);
-    let Answer::Done = r else {
+    let Ok(()) = append(record, iv, file, frame) else {
         say(b"refused\n");
         return;
     };
@@ -98,8 +93,8 @@ fn print_frame(record: &[u8], iv: &[u8], file: &[u8], frame: &mut [u8]) {
 }
 
 // Prints the bits of a port's fields, and their frame.
-fn print_port(made: Made, iv: &[u8], file: &[u8], frame: &mut [u8]) {
-    let Made::Fitting(port) = made else {
+fn print_port(made: Result<Port, Field>, iv: &[u8], file: &[u8], frame: &mut [u8]) {
+    let Ok(port) = made else {
         say(b"refused\n");
         return;
     };
@@ -108,23 +103,21 @@ fn print_port(made: Made, iv: &[u8], file: &[u8], frame: &mut [u8]) {
     print_frame(&record, iv, file, frame);
 }
 
+// Two copies into parts of the file would leave its length unknown to who lends the file on.
 fn join(first: &[u8], second: &[u8], file: &mut [u8]) {
-    let mut i: usize = 0;
-    while i < file.len() {
-        file[i] = if i < first.len() {
-            answer::byte_at(first, i)
+    for (i, byte) in file.iter_mut().enumerate() {
+        *byte = if i < first.len() {
+            first[i]
         } else {
-            answer::byte_at(second, i - first.len())
+            answer::get_or(second, i - first.len(), 0)
         };
-        i += 1;
     }
 }
 
 fn say_record(bits: &[u8]) {
-    let found = port::fields(bits);
-    match found {
-        Found::Record(port) => say_port(port),
-        Found::Refused { .. } => say(b" refused"),
+    match port::fields(bits) {
+        Ok(port) => say_port(port),
+        Err(_) => say(b" refused"),
     }
 }
 
@@ -136,8 +129,7 @@ fn read(file: &[u8], records: &mut [u8]) -> Answer {
 
 fn print_read(file: &[u8]) {
     let mut records = [0u8; 128];
-    let r = read(file, &mut records);
-    let Answer::Done = r else {
+    let Ok(()) = read(file, &mut records) else {
         say(b"refused\n");
         return;
     };
@@ -150,16 +142,12 @@ fn print_read(file: &[u8]) {
 
 fn say_answer(answer: Answer) {
     match answer {
-        Answer::Done => say(b"done"),
-        Answer::Refused {
-            number,
-            list,
-            place,
-        } => {
-            say_number(number as usize);
-            say_field(b", list ", list);
+        Ok(()) => say(b"done"),
+        Err(e) => {
+            say_number(u32::from(e.reason) as usize);
+            say_field(b", list ", e.list);
             say(b", place ");
-            say_number(place);
+            say_number(e.place);
         }
     }
 }

@@ -1,4 +1,5 @@
-// Kreyvium's public vectors. Key and IV are two words each: the low byte of the first word is printed first.
+// Kreyvium's public vectors. Key and IV are two words each, lent on as `kreyvium::stream64` takes them: the low byte of the
+// first word is printed first.
 use crate::text::{say, say_word};
 
 // One vector. The word z has the first keystream bit at its high end, so it is turned to be printed.

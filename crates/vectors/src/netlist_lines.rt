@@ -1,43 +1,62 @@
 // The rules' cases of thresholds and one-hot netlists, by evaluating the netlists that are emitted; and
 // emitted netlists that the rules describe, gate by gate. Each list has just the words that its netlist takes.
-use crate::text::{say, say_bits, say_number};
-use answer::Answer;
-use netlist::counts::counts_of;
-use netlist::gate::{AND_KIND, Gate, MUX_KIND, NOT_KIND, Taken, XOR_KIND};
+use crate::text::{say, say_bits, say_number, say_words};
+use netlist::counts::{Counts, counts_of};
+use netlist::gate::{Gate, take_apart};
 use netlist::{GATE_STRIDE, HEADER_WORDS};
 
-// No call emits this one: 5 XOR 0 1; 2 of 3 over wires 2, 3 and 4, with 6 NOT 2, 7 MUX 3 2 6, 8 AND 2 3,
-// 9 AND 7 4, 10 XOR 9 8; 11 XOR 5 10, out 11. Words: inputs, gates, outputs; kind, a, b, c of each gate; the
-// output wire.
-const XOR_AND_THRESHOLD: [u32; 32] = [
-    5, 7, 1, XOR_KIND, 0, 1, 0, NOT_KIND, 2, 0, 0, MUX_KIND, 3, 2, 6, AND_KIND, 2, 3, 0, AND_KIND,
-    7, 4, 0, XOR_KIND, 9, 8, 0, XOR_KIND, 5, 10, 0, 11,
+// No call emits this one, over five inputs: 5 XOR 0 1; 2 of 3 over wires 2, 3 and 4, with 6 NOT 2, 7 MUX 3 2 6,
+// 8 AND 2 3, 9 AND 7 4, 10 XOR 9 8; 11 XOR 5 10.
+const XOR_AND_THRESHOLD: [Gate; 7] = [
+    Gate::Xor(0, 1),
+    Gate::Not(2),
+    Gate::Mux(3, 2, 6),
+    Gate::And(2, 3),
+    Gate::And(7, 4),
+    Gate::Xor(9, 8),
+    Gate::Xor(5, 10),
 ];
+
+// Its words: header, gates, and wire 11 for an output.
+fn xor_and_threshold() -> [u32; 32] {
+    let mut net = [0u32; 32];
+    let counts = Counts {
+        inputs: 5,
+        gates: 7,
+        outputs: 1,
+    };
+    netlist::counts::put_header(&mut net, counts);
+    for (g, &gate) in XOR_AND_THRESHOLD.iter().enumerate() {
+        let at = HEADER_WORDS + GATE_STRIDE * g;
+        net[at..at + GATE_STRIDE].copy_from_slice(&<[u32; 4]>::from(gate));
+    }
+    net[31] = 11;
+    net
+}
 
 // What a netlist gives, printed: as many bits as its outputs.
 fn say_outputs(net: &[u32], inputs: &[u8]) {
     let mut values = [0u8; 12];
     let mut outputs = [0u8; 3];
-    let r = evaluate::evaluate(net, inputs, &mut values, &mut outputs);
-    let Answer::Done = r else {
+    let Ok(()) = evaluate::evaluate(net, inputs, &mut values, &mut outputs) else {
         say(b"refused");
         return;
     };
-    say_bits(&outputs, counts_of(net).outputs as usize);
+    let count = (counts_of(net).outputs as usize).min(outputs.len());
+    say_bits(&outputs[..count]);
 }
 
 fn line(source: &[u8], net: &[u32], inputs: &[u8]) {
     say(source);
     say(b" on ");
-    say_bits(inputs, inputs.len());
+    say_bits(inputs);
     say(b": ");
     say_outputs(net, inputs);
     say(b"\n");
 }
 
 fn threshold(source: &[u8], d: u32, n: u32, net: &mut [u32], inputs: &[u8]) {
-    let r = emit::emit_threshold(d, n, net);
-    let Answer::Done = r else {
+    let Ok(()) = emit::emit_threshold(d, n, net) else {
         say(b"refused\n");
         return;
     };
@@ -45,8 +64,7 @@ fn threshold(source: &[u8], d: u32, n: u32, net: &mut [u32], inputs: &[u8]) {
 }
 
 fn one_hot(n: u32, net: &mut [u32], inputs: &[u8]) {
-    let r = emit::emit_one_hot(n, net);
-    let Answer::Done = r else {
+    let Ok(()) = emit::emit_one_hot(n, net) else {
         say(b"refused\n");
         return;
     };
@@ -99,67 +117,47 @@ fn print_one_hots() {
     one_hot(0, &mut none, &[]);
 }
 
-fn say_kind(gate: Gate) {
-    match gate {
-        Gate::Zero => say(b"ZERO"),
-        Gate::One => say(b"ONE"),
-        Gate::Not(_) => say(b"NOT"),
-        Gate::Xor(_, _) => say(b"XOR"),
-        Gate::And(_, _) => say(b"AND"),
-        Gate::Mux(_, _, _) => say(b"MUX"),
-    }
-}
-
-fn say_operand(used: bool, wire: u32) {
-    if used {
-        say(b" ");
-        say_number(wire as usize);
-    }
+fn say_operation(name: &[u8], wires: &[u32]) {
+    say(name);
+    say_words(wires);
 }
 
 // A gate's wire, kind and used operands.
 fn say_gate(net: &[u32], g: u32) {
     let start = HEADER_WORDS + GATE_STRIDE * (g as usize);
-    let kind = answer::word_at(net, start);
-    let a = answer::word_at(net, start + 1);
-    let b = answer::word_at(net, start + 2);
-    let c = answer::word_at(net, start + 3);
+    let word = |i: usize| answer::get_or(net, start + i, 0);
     say(b" ");
     say_number(counts_of(net).inputs as usize + g as usize);
     say(b" ");
-    let t = netlist::gate::take_apart(kind, a, b, c);
-    let Taken::Known(gate) = t else {
-        say(b"no kind;");
-        return;
-    };
-    say_kind(gate);
-    let used = netlist::gate::used(gate);
-    say_operand(used % 2 == 1, a);
-    say_operand(used / 2 % 2 == 1, b);
-    say_operand(used / 4 == 1, c);
+    match take_apart(word(0), word(1), word(2), word(3)) {
+        None => say(b"no kind"),
+        Some(Gate::Zero) => say_operation(b"ZERO", &[]),
+        Some(Gate::One) => say_operation(b"ONE", &[]),
+        Some(Gate::Not(a)) => say_operation(b"NOT", &[a]),
+        Some(Gate::Xor(a, b)) => say_operation(b"XOR", &[a, b]),
+        Some(Gate::And(a, b)) => say_operation(b"AND", &[a, b]),
+        Some(Gate::Mux(a, b, c)) => say_operation(b"MUX", &[a, b, c]),
+    }
     say(b";");
 }
 
 // Gates from one on, up to another.
 fn say_gates(net: &[u32], from: u32, to: u32) {
-    let mut g = from;
-    while g < to {
+    for g in from..to {
         say_gate(net, g);
-        g += 1;
     }
 }
 
 fn print_two_of_three() {
     let mut net = [0u32; 24];
-    let r = emit::emit_threshold(2, 3, &mut net);
-    let Answer::Done = r else {
+    let Ok(()) = emit::emit_threshold(2, 3, &mut net) else {
         say(b"refused\n");
         return;
     };
     say(b"rules, The printing program, threshold 2 of 3:");
     say_gates(&net, 0, 5);
     say(b" out ");
-    say_number(answer::word_at(&net, 23) as usize);
+    say_number(answer::get_or(&net, 23, 0) as usize);
     say(b"\n");
 }
 
@@ -172,14 +170,14 @@ fn say_kreyvium(net: &[u32]) {
     say(b" to");
     say_gates(net, 16130, 16147);
     say(b" out ");
-    say_number(answer::word_at(net, 64591) as usize);
+    say_number(answer::get_or(net, 64591, 0) as usize);
     say(b"\n");
 }
 
 fn print_kreyvium() {
     let mut net = [0u32; 64592];
     let r = emit::emit_decipher(6, 1, &[], &[0; 128], &mut net);
-    let Answer::Done = r else {
+    let Ok(()) = r else {
         say(b"refused\n");
         return;
     };
@@ -191,7 +189,7 @@ pub(crate) fn print() {
     print_edges();
     line(
         b"rules, Cases, XOR of 2 with 2 of 3",
-        &XOR_AND_THRESHOLD,
+        &xor_and_threshold(),
         &[1, 0, 0, 1, 1],
     );
     print_one_hots();

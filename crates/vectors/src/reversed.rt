@@ -12,15 +12,7 @@ use kreyvium::State;
 pub(crate) fn turned(x: u64) -> u64
     ensures { bits 64 result ≡ reverse (bits 64 x) }
 {
-    let mut rest = x;
-    let mut done: u64 = 0;
-    let mut i: usize = 0;
-    while i < 64 {
-        done = done * 2 + rest % 2;
-        rest = rest / 2;
-        i += 1;
-    }
-    done
+    x.reverse_bits()
 }
 
 // s1 = K127 .. s93 = K35, s94 = IV127 .. s221 = IV0; K* and IV* as the rules load them.
@@ -35,7 +27,5 @@ fn load(k0: u64, k1: u64, v0: u64, v1: u64) -> State
 pub(crate) fn stream64(k0: u64, k1: u64, v0: u64, v1: u64) -> u64
     ensures { (n : ℕ) → n ≤ 64 → tops n result ≡ stream n (rounds 1152 (loaded_in_reverse (bits 64 k0 ++ bits 64 k1) (bits 64 v0 ++ bits 64 v1))) }
 {
-    let s = load(k0, k1, v0, v1);
-    let t = s.warmed();
-    t.outputs64()
+    load(k0, k1, v0, v1).warmed().outputs64()
 }

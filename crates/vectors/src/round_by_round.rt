@@ -11,10 +11,8 @@ fn warmed(s: State) -> State
     ensures { state_of result ≡ rounds 1152 (state_of s) }
 {
     let mut t = s;
-    let mut i: usize = 0;
-    while i < 1152 {
+    for i in 0..1152u32 {
         t = t.round();
-        i += 1;
     }
     t
 }
@@ -25,11 +23,9 @@ fn outputs(s: State) -> u64
 {
     let mut t = s;
     let mut z: u64 = 0;
-    let mut i: usize = 0;
-    while i < 64 {
-        z = z * 2 + t.output() as u64;
+    for i in 0..64u32 {
+        z = z * 2 + u64::from(t.output());
         t = t.round();
-        i += 1;
     }
     z
 }
@@ -38,7 +34,5 @@ fn outputs(s: State) -> u64
 pub(crate) fn stream64(k0: u64, k1: u64, v0: u64, v1: u64) -> u64
     ensures { (n : ℕ) → n ≤ 64 → tops n result ≡ stream_of (bits 64 k0 ++ bits 64 k1) (bits 64 v0 ++ bits 64 v1) n }
 {
-    let s = State::load(k0, k1, v0, v1);
-    let t = warmed(s);
-    outputs(t)
+    outputs(warmed(State::load(k0, k1, v0, v1)))
 }

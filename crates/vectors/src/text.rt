@@ -10,16 +10,15 @@ pub(crate) fn say(text: &[u8]) {
 }
 
 // A bit as '0' or '1', four bits as one hexadecimal digit; '?' for what is neither.
+#[tactic(auto, unfolding(crate::specs::Text::digit_of))]
 fn digit(n: u8) -> u8
     ensures { result ≡ digit_of n }
 {
-    if n < 10 {
-        return b'0' + n;
+    match n {
+        0..=9 => b'0' + n,
+        10..=15 => b'A' + (n - 10),
+        _ => b'?',
     }
-    if n < 16 {
-        return b'A' + (n - 10);
-    }
-    b'?'
 }
 
 pub(crate) fn say_number(n: usize) {
@@ -27,8 +26,7 @@ pub(crate) fn say_number(n: usize) {
 }
 
 pub(crate) fn say_digit(n: u8) {
-    let one = [digit(n)];
-    say(&one);
+    say(&[digit(n)]);
 }
 
 // A byte in hexadecimal.
@@ -37,49 +35,37 @@ fn say_byte(n: u8) {
     say_digit(n % 16);
 }
 
-// The first n bits of a list, with commas.
-pub(crate) fn say_bits(bits: &[u8], n: usize) {
-    if n == 0 {
+// A list of bits, with commas.
+pub(crate) fn say_bits(bits: &[u8]) {
+    if bits.is_empty() {
         say(b"nothing");
-        return;
     }
-    let mut i: usize = 0;
-    while i < n {
+    for (i, &bit) in bits.iter().enumerate() {
         if 0 < i {
             say(b",");
         }
-        say_digit(answer::byte_at(bits, i));
-        i += 1;
+        say_digit(bit);
     }
 }
 
 // All bytes of a list in hexadecimal, and all words in decimal, each after a space.
 pub(crate) fn say_bytes(bytes: &[u8]) {
-    let mut i: usize = 0;
-    while i < bytes.len() {
+    for &byte in bytes {
         say(b" ");
-        say_byte(bytes[i]);
-        i += 1;
+        say_byte(byte);
     }
 }
 
 pub(crate) fn say_words(words: &[u32]) {
-    let mut i: usize = 0;
-    while i < words.len() {
+    for &word in words {
         say(b" ");
-        say_number(words[i] as usize);
-        i += 1;
+        say_number(word as usize);
     }
 }
 
 // The eight bytes of a word, the low one first, in hexadecimal.
 pub(crate) fn say_word(word: u64) {
-    let mut rest = word;
-    let mut i: usize = 0;
-    while i < 8 {
-        say_digit((rest / 16 % 16) as u8);
-        say_digit((rest % 16) as u8);
-        rest = rest / 256;
-        i += 1;
+    for &byte in &word.to_le_bytes() {
+        say_byte(byte);
     }
 }

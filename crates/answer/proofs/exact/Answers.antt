@@ -5,7 +5,7 @@ use Rattle.answer.proofs.exact.Goals as goal
 
 pub returns-then-len-wanted : goal.returns-then-len-wanted
 unfolding length_answer refuse
-returns-then-len-wanted c = simp (ne_eqb _ _ c.if-len-wanted.true)
+returns-then-len-wanted c = rw (c.refused.ensures) (simp (ne_eqb _ _ c.if-len-wanted.true))
 
 pub returns : goal.returns
 unfolding length_answer refuse

@@ -5,7 +5,7 @@ use Rattle.answer.proofs.room.Goals as goal
 
 pub returns-then-len-needed : goal.returns-then-len-needed
 unfolding room_answer refuse
-returns-then-len-needed c = simp (lt-ltb _ _ c.if-len-needed.true)
+returns-then-len-needed c = rw (c.refused.ensures) (simp (lt-ltb _ _ c.if-len-needed.true))
 
 pub returns : goal.returns
 unfolding room_answer refuse

@@ -1,16 +1,21 @@
-use mathlib.Core.Path.{◌∙◌}
+use mathlib.Core.Path.{refl, sym, ap, ◌∙◌}
+use Prim.Native.Nat.{ℕ}
+use mathlib.Core.List.{List}
+use lib.Seq.{take_all}
+use Rattle.answer.specs.Fronts.{over}
 use native.Mathlib.Omega.{arith}
-use Rattle.choice.proofs.Swaps.{copy_none, copy_more, copy_all}
+use Rattle.answer.proofs.Over.{over_none, over-take}
 use borrow.Author.Rules.{rules}
 use Rattle.choice.proofs.copy.Goals as goal
 
 pub loop-i-init : goal.loop-i-init
-loop-i-init c = (search rules, copy_none c.args.wires.now _, search rules)
+loop-i-init c = (sym (over_none _), refl)
 
 pub loop-i-preserved : goal.loop-i-preserved
 loop-i-preserved c =
     let a = c.args in
-    (search rules, rw (c.loop-i.invariant.1, c.wide.ensures) (copy_more a.wires.now a.row.now c.loop-i.i (omega arith) (omega arith)), search rules)
+    (rw (c.loop-i.invariant.0, c.from.ensures) (over-take a.wires.now a.row.now c.loop-i.i (omega arith) (omega arith)), search rules)
 
 pub returns : goal.returns
-returns c = c.loop-i.invariant.1 ∙ copy_all _ _ _ _ c.loop-i.invariant.0 c.loop-i-test.false
+returns c =
+    c.loop-i.invariant.0 ∙ ap (λ (t : List ℕ). over t c.args.row.now) (take_all c.loop-i.i c.args.wires.now c.loop-i-test.false)

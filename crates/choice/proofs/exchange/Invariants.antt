@@ -1,11 +1,7 @@
-use Prim.Native.Nat.{◌≤◌, ◌-◌}
 use mathlib.Core.Path.{◌≡◌}
 use lib.ListN.{length, drop}
 use Rattle.choice.specs.Choice.{swaps}
 use Rattle.choice.proofs.exchange.Given as goal
 
 abbrev pub invariant-loop-i : goal.invariant-loop-i
-invariant-loop-i l = (l.i ≤ length l.draws) × (swaps l.i (drop l.i l.draws) l.wires ≡ swaps 0 l.draws l.initial.wires) × (length l.wires ≡ length l.initial.wires)
-
-abbrev pub decreases-loop-i : goal.decreases-loop-i
-decreases-loop-i l = length l.draws - l.i
+invariant-loop-i l = (swaps l.i (drop l.i l.draws) l.wires ≡ swaps 0 l.draws l.initial.wires) × (length l.wires ≡ length l.initial.wires)

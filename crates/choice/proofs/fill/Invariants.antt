@@ -1,4 +1,3 @@
-use Prim.Native.Nat.{◌≤◌, ◌-◌}
 use mathlib.Core.Path.{◌≡◌}
 use lib.ListN.{length}
 use Rattle.answer.specs.Fronts.{over}
@@ -6,7 +5,4 @@ use Rattle.choice.specs.Choice.{up_to}
 use Rattle.choice.proofs.fill.Given as goal
 
 abbrev pub invariant-loop-i : goal.invariant-loop-i
-invariant-loop-i l = (l.i ≤ l.key) × (l.wires ≡ over (up_to l.i) l.initial.wires) × (length l.wires ≡ length l.initial.wires)
-
-abbrev pub decreases-loop-i : goal.decreases-loop-i
-decreases-loop-i l = l.key - l.i
+invariant-loop-i l = (l.wires ≡ over (up_to l.i) l.initial.wires) × (length l.wires ≡ length l.initial.wires)

@@ -1,12 +1,8 @@
-use Prim.Native.Nat.{◌≤◌, ◌-◌}
 use mathlib.Core.Path.{◌≡◌}
-use lib.ListN.{length, take}
+use lib.ListN.{take}
 use Rattle.answer.specs.Bits.{added}
 use Rattle.answer.specs.Fronts.{over}
 use Rattle.cipher.proofs.add.Given as goal
 
 abbrev pub invariant-loop-i : goal.invariant-loop-i
-invariant-loop-i l = (l.out ≡ over (added (take l.i l.record) (take l.i l.initial.out)) l.initial.out) × (l.i ≤ length l.record) × (length l.record ≤ length l.initial.out) × (length l.out ≡ length l.initial.out)
-
-abbrev pub decreases-loop-i : goal.decreases-loop-i
-decreases-loop-i l = length l.record - l.i
+invariant-loop-i l = l.out ≡ over (added (take l.i l.record) (take l.i l.initial.out)) l.initial.out

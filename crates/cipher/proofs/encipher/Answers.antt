@@ -1,7 +1,7 @@
 use Prim.Native.Nat.{ℕ}
 use mathlib.Core.Path.{◌≡◌}
 use mathlib.Core.List.{List}
-use Rattle.answer.specs.declared.Answer.{Answer}
+use Rattle.answer.specs.Answers.{Answer}
 use Rattle.cipher.specs.Cipher.{Ciphered}
 use borrow.Author.Rules.{rules}
 use Rattle.cipher.proofs.encipher.Goals as goal

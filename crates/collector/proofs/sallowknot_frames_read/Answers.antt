@@ -1,12 +1,11 @@
-use mathlib.Core.Path.{ap, ◌∙◌}
-use Rattle.daemon.specs.Packed.{packed_of}
+use Rattle.daemon.proofs.Numbers.{packed_due}
 use Rattle.collector.proofs.Numbers.{left_by, read_small}
 use Rattle.collector.proofs.sallowknot_frames_read.Goals as goal
-
-pub packed-requires : goal.packed-requires
-packed-requires c = rw c.read.ensures.answered (read_small _ _ _)
 
 pub returns : goal.returns
 returns c =
     let x = c.read.ensures in
-    record { answered = c.packed.ensures ∙ ap packed_of x.answered; written = left_by _ _ x.answered x.written }
+    record {
+      answered = packed_due c.packed.ensures x.answered (read_small _ _ _);
+      written = left_by _ _ x.answered x.written;
+    }

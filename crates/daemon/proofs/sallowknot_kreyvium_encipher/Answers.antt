@@ -1,9 +1,8 @@
 use mathlib.Core.Path.{◌≡◌, ap, ◌∙◌}
 use lib.ListN.{length}
-use Rattle.daemon.specs.Packed.{packed_of}
 use Rattle.daemon.specs.Daemon.{kreyvium_answer}
 use Rattle.daemon.specs.Inner.{without_indices}
-use Rattle.daemon.proofs.Numbers.{kreyvium_small}
+use Rattle.daemon.proofs.Numbers.{packed_due, kreyvium_small}
 use Rattle.daemon.proofs.Counted.{kreyvium_counted, kreyvium_left}
 use Rattle.daemon.proofs.sallowknot_kreyvium_encipher.Goals.{After-without_indices}
 use Rattle.daemon.proofs.sallowknot_kreyvium_encipher.Goals as goal
@@ -16,12 +15,10 @@ counted c =
     ∙ ap without_indices c.encipher-r.ensures.answered
     ∙ kreyvium_counted _ _ _ _ _
 
-pub packed-requires : goal.packed-requires
-packed-requires c = rw (counted c) (kreyvium_small _ _ _ _ _)
-
 pub returns : goal.returns
 returns c =
+    let e = counted (goal.at.returns c).After-without_indices in
     record {
-      answered = c.packed.ensures ∙ ap packed_of (counted (goal.at.returns c).After-without_indices);
+      answered = packed_due c.packed.ensures e (kreyvium_small _ _ _ _ _);
       written = kreyvium_left _ _ _ _ _ c.encipher-r.ensures;
     }

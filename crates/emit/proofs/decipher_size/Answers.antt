@@ -1,21 +1,22 @@
 use mathlib.Core.Path.{◌≡◌, sym, ◌∙◌}
-use Rattle.answer.specs.declared.Answer.TheVariants.{Done}
+use native.Mathlib.Omega.{arith}
+use Rattle.std.specs.Prelude.{Ok}
 use Rattle.emit.specs.Emit.{wiring_answer}
 use Rattle.emit.proofs.Accepted.{wiring_wired, no_size, size_is}
-use Rattle.emit.proofs.decipher_size.Goals.{In-Done}
+use Rattle.emit.proofs.decipher_size.Goals.{In_ok-wiring}
 use Rattle.emit.proofs.decipher_size.Goals as goal
 
 -- the wiring is accepted
-accepted : (c : In-Done)
-    → let a = c.args in wiring_answer a.instance a.m a.indices.now a.whitening.now ≡ Done
-accepted c = sym c.wiring-r.ensures ∙ c.in-Done.is
+accepted : (c : In_ok-wiring)
+    → let a = c.args in wiring_answer a.instance a.m a.indices.now a.whitening.now ≡ Ok tt
+accepted c = sym c.wiring.ensures ∙ c.in_ok-wiring.was
 
-pub returns-in_default : goal.returns-in_default
-returns-in_default c = no_size _ c.wiring-r.ensures c.in_default.is
+pub returns-in_err-wiring : goal.returns-in_err-wiring
+returns-in_err-wiring c = no_size _ (grind arith) c.wiring.ensures c.in_err-wiring.was
 
-pub decipher_counts-counts-requires : goal.decipher_counts-counts-requires
-decipher_counts-counts-requires c = wiring_wired _ _ _ _ (accepted c)
+pub invariant_of-lent : goal.invariant_of-lent
+invariant_of-lent c = record { wired = wiring_wired _ _ _ _ (accepted (goal.at.invariant_of-lent c).In_ok-wiring) }
 
 pub returns : goal.returns
 returns c =
-    size_is _ _ _ (accepted (goal.at.returns c).In-Done) c.decipher_counts-counts.ensures c.word_count.ensures
+    size_is _ _ _ (accepted (goal.at.returns c).In_ok-wiring) c.counts-counts.ensures c.word_count.ensures

@@ -1,8 +1,7 @@
 use mathlib.Core.Path.{sym, ◌∙◌}
-use native.Mathlib.Omega.{arith}
 use Rattle.cells.specs.Cells.{threshold_net}
 use Rattle.emit.specs.Emit.{no_threshold, threshold_answer}
-use Rattle.emit.proofs.Shapes.{no_shape}
+use Rattle.emit.proofs.Shapes.{no_shape, shape_good}
 use Rattle.emit.proofs.emit_threshold.Goals as goal
 
 pub returns-then-no_threshold : goal.returns-then-no_threshold
@@ -11,5 +10,5 @@ returns-then-no_threshold c =
     let a = c.args in
     no_shape (no_threshold a.d a.n) (threshold_net a.d a.n) a.res.now _ (sym c.no_threshold.ensures ∙ c.if-no_threshold.true) c.refused.ensures
 
-pub threshold-requires : goal.threshold-requires
-threshold-requires c = (sym c.no_threshold.ensures ∙ c.if-no_threshold.false, omega arith)
+pub invariant_of-net : goal.invariant_of-net
+invariant_of-net c = let g = shape_good _ _ (sym c.no_threshold.ensures ∙ c.if-no_threshold.false) in record { few = g.0; some = g.1; most = g.2 }

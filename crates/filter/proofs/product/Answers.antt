@@ -5,14 +5,18 @@ use Rattle.filter.proofs.Sums.{and_bit, bit_times, product-start, product-step, 
 use borrow.Author.Rules.{rules}
 use Rattle.filter.proofs.product.Goals as goal
 
-pub loop-i-init : goal.loop-i-init
-loop-i-init c = (search rules, search rules, product-start _)
+pub loop-b-init : goal.loop-b-init
+loop-b-init c = record { bit = search rules; same = product-start _ }
 
-pub loop-i-preserved : goal.loop-i-preserved
-loop-i-preserved c =
+pub loop-b-preserved : goal.loop-b-preserved
+loop-b-preserved c =
     let x = c.args.x.now in
-    rw (and_bit c.loop-i.p (get_or x c.loop-i.i 0) c.loop-i.invariant.0)
-    (bit_times c.loop-i.p (get_or x c.loop-i.i 0 % 2) c.loop-i.invariant.0 (omega arith), search rules, product-step x c.loop-i.p c.loop-i.i c.loop-i.invariant.0 (search rules) c.loop-i.invariant.2)
+    let v = c.loop-b.invariant in
+    rw (and_bit c.loop-b.p (get_or x c.loop-b.b-index 0) v.bit)
+    record {
+      bit = bit_times c.loop-b.p (get_or x c.loop-b.b-index 0 % 2) v.bit (omega arith);
+      same = product-step x c.loop-b.p c.loop-b.b-index v.bit (search rules) v.same;
+    }
 
 pub returns : goal.returns
-returns c = product_end _ _ _ c.loop-i.invariant.0 c.loop-i-test.false c.loop-i.invariant.2
+returns c = product_end _ _ _ c.loop-b.invariant.bit (omega arith) c.loop-b.invariant.same

@@ -1,18 +1,20 @@
 use Prim.Native.Nat.{◌≤◌}
+use mathlib.Core.Path.{refl}
 use native.Mathlib.Omega.{arith}
 use lib.ListN.{length}
 use Rattle.instance.specs.Table.{sizes_of}
 use Rattle.filter.specs.Instances.{degrees_of}
+use Rattle.filter.specs.Filter.{sum_of}
 use Rattle.filter.proofs.Sums.{degrees_off}
 use Rattle.filter.proofs.sum_by_parts.Goals as goal
 
 pub flip-requires : goal.flip-requires
 unfolding sizes_of
-flip-requires c = rw c.in-1.is at c.requires
+flip-requires c = (omega arith, rw c.in-1.is at c.requires)
 
 pub flip-requires-in-2 : goal.flip-requires-in-2
 unfolding sizes_of
-flip-requires-in-2 c = rw c.in-2.is at c.requires
+flip-requires-in-2 c = (omega arith, rw c.in-2.is at c.requires)
 
 pub filip_1216-requires : goal.filip_1216-requires
 unfolding sizes_of
@@ -45,4 +47,5 @@ unfolding degrees_of
 returns-in-5 c = rw c.in-5.is c.sum_equal.ensures
 
 pub returns-in_default : goal.returns-in_default
-returns-in_default c = degrees_off c.args.instance _ (λ h. omega arith)
+unfolding sum_of
+returns-in_default c = rw (← degrees_off c.args.instance (λ h. omega arith)) refl

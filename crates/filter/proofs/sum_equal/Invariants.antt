@@ -1,10 +1,6 @@
-use Prim.Native.Nat.{◌-◌}
-use lib.ListN.{replicate}
-use Rattle.filter.proofs.Parts.{Part}
+use mathlib.Core.List.{[], ◌∷◌}
+use Rattle.filter.proofs.Parts.{Parts}
 use Rattle.filter.proofs.sum_equal.Given as goal
 
-abbrev pub invariant-loop-j : goal.invariant-loop-j
-invariant-loop-j l = Part (replicate l.many l.degree) l.x l.sum l.at l.j
-
-abbrev pub decreases-loop-j : goal.decreases-loop-j
-decreases-loop-j l = l.many - l.j
+abbrev pub invariant-loop-monomial : goal.invariant-loop-monomial
+invariant-loop-monomial l = Parts (l.degree ∷ []) l.many l.x l.sum l.monomial-iterator.size l.monomial-iterator.rest.now

@@ -1,20 +1,17 @@
+use mathlib.Core.Path.{refl}
 use native.Mathlib.Omega.{arith}
 use Rattle.filter.proofs.Sums.{sum-start, sum_step, sum_end}
 use borrow.Author.Rules.{rules}
 use Rattle.filter.proofs.sum_monomials.Goals as goal
 
-pub loop-j-init : goal.loop-j-init
-loop-j-init c = sum-start c.args.degrees.now c.args.x.now
+pub loop-degree-init : goal.loop-degree-init
+loop-degree-init c = sum-start c.args.degrees.now c.args.x.now
 
-pub overflow_cast-degrees : goal.overflow_cast-degrees
-overflow_cast-degrees c = omega (arith, c.shared_slice_known-in-loop-j-1.given c.loop-j.j)
-
-pub loop-j-preserved : goal.loop-j-preserved
-loop-j-preserved c =
+pub loop-degree-preserved : goal.loop-degree-preserved
+loop-degree-preserved c =
     let a = c.args in
-    sum_step a.degrees.now a.x.now _ _ _ _ _ c.loop-j.invariant (search rules) c.smaller-size.ensures c.product.ensures
+    let s = c.split_at.ensures in
+    sum_step a.degrees.now a.x.now _ _ _ _ _ _ _ _ c.loop-degree.invariant (search rules) (rw (← c.from.ensures) c.min.ensures) s.front s.back c.product-sum.ensures refl
 
 pub returns : goal.returns
-returns c =
-    let a = c.args in
-    sum_end a.degrees.now a.x.now _ _ _ c.loop-j.invariant c.loop-j-test.false
+returns c = sum_end c.args.degrees.now c.args.x.now _ _ _ c.loop-degree.invariant (omega arith)

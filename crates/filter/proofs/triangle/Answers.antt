@@ -1,38 +1,37 @@
-use Prim.Native.Nat.{◌+◌, ◌≤◌}
+use Prim.Native.Nat.{◌-◌, ◌<◌}
+use mathlib.Core.Path.{◌≡◌, ◌∙◌}
 use native.Mathlib.Omega.{arith}
-use lib.ListN.{length}
+use lib.ListN.{get_or, length}
 use Rattle.filter.specs.Instances.{degrees_to}
 use Rattle.filter.proofs.Sums.{sum_end}
 use Rattle.filter.proofs.Published.{triangle_total}
 use Rattle.filter.proofs.Parts.{part-start, part_room, part_step, up_to-length, up_to-at}
-use borrow.Author.Rules.{rules}
-use Rattle.filter.proofs.triangle.Goals.{In-loop-j}
+use Rattle.filter.proofs.triangle.Goals.{In-loop-degree}
 use Rattle.filter.proofs.triangle.Goals as goal
 
--- the next monomial's variables are there
-room : (c : In-loop-j) → c.loop-j.at + (c.loop-j.j + 1) ≤ length c.args.x.now
-room c =
-    let a = c.args in
-    part_room (degrees_to a.k) a.x.now c.loop-j.sum c.loop-j.at c.loop-j.j (c.loop-j.j + 1) c.loop-j.invariant (omega (arith, up_to-length a.k)) (up_to-at a.k c.loop-j.j (search rules))
+-- the degree that stands in the list before the loop's
+here : (c : In-loop-degree) → let j = c.loop-degree.degree - 1 in (j < length (degrees_to c.args.k)) × (get_or (degrees_to c.args.k) j 0 ≡ c.loop-degree.degree)
+here c =
+    let k = c.args.k in
+    let j = c.loop-degree.degree - 1 in
+    let h : j < k = omega arith in
+    (omega (arith, up_to-length k), up_to-at k j h ∙ omega arith)
 
-pub loop-j-init : goal.loop-j-init
-loop-j-init c = part-start (degrees_to c.args.k) c.args.x.now (omega (arith, triangle_total c.args.k))
+pub loop-degree-init : goal.loop-degree-init
+loop-degree-init c = part-start (degrees_to c.args.k) c.args.x.now (omega (arith, triangle_total c.args.k))
 
-pub overflow_add-end : goal.overflow_add-end
-overflow_add-end c = omega (arith, room c)
+pub split_at-requires : goal.split_at-requires
+split_at-requires c =
+    let h = here c in
+    part_room (degrees_to c.args.k) c.args.x.now _ _ _ _ c.loop-degree.invariant h.0 h.1
 
-pub slice_bounds-product-end : goal.slice_bounds-product-end
-slice_bounds-product-end c = omega (arith, room c)
-
-pub overflow_add-at : goal.overflow_add-at
-overflow_add-at c = omega (arith, room (goal.at.overflow_add-at c).In-loop-j)
-
-pub loop-j-preserved : goal.loop-j-preserved
-loop-j-preserved c =
-    let a = c.args in
-    part_step (degrees_to a.k) a.x.now c.loop-j.sum c.loop-j.at c.loop-j.j (c.loop-j.j + 1) _ c.loop-j.invariant (omega (arith, up_to-length a.k)) (up_to-at a.k c.loop-j.j (search rules)) c.product-sum.ensures
+pub loop-degree-preserved : goal.loop-degree-preserved
+loop-degree-preserved c =
+    let h = here (goal.at.loop-degree-preserved c).In-loop-degree in
+    let s = c.split_at.ensures in
+    part_step (degrees_to c.args.k) c.args.x.now _ _ _ _ _ _ _ _ c.loop-degree.invariant h.0 h.1 s.front s.back c.product-sum.ensures (omega arith)
 
 pub returns : goal.returns
 returns c =
-    let a = c.args in
-    sum_end (degrees_to a.k) a.x.now _ _ _ c.loop-j.invariant.0 (omega (arith, up_to-length a.k))
+    let k = c.args.k in
+    sum_end (degrees_to k) c.args.x.now _ _ _ c.loop-degree.invariant.sums (omega (arith, up_to-length k))

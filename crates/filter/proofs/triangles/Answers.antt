@@ -1,40 +1,26 @@
-use Prim.Native.Nat.{◌+◌, ◌*◌, ◌≤◌}
 use native.Mathlib.Omega.{arith}
-use Rattle.answer.proofs.Over.{tail_is, tail_room}
-use Rattle.filter.specs.Papers.{triangle_size}
-use Rattle.filter.proofs.Published.{triangle_holds}
-use Rattle.filter.proofs.Parts.{triangles_start, triangles_room, triangles_step, triangles_end}
-use borrow.Author.Rules.{rules}
-use Rattle.filter.proofs.triangles.Goals.{In-loop-at}
+use Rattle.filter.specs.Instances.{degrees_to}
+use Rattle.filter.proofs.Published.{triangle_total, triangle_holds}
+use Rattle.filter.proofs.Parts.{parts_start, parts_step, parts_end}
 use Rattle.filter.proofs.triangles.Goals as goal
-
--- the next triangle ends where the last one does, or before
-room : (c : In-loop-at) → let k = c.args.k in c.loop-at.at + triangle_size k ≤ 8 * triangle_size k
-room c =
-    let a = c.args in
-    triangles_room 8 a.k a.x.now c.loop-at.sum c.loop-at.at c.loop-at.invariant (search rules)
 
 pub overflow_add-size : goal.overflow_add-size
 overflow_add-size c = omega (arith, triangle_holds c.args.k)
 
-pub loop-at-init : goal.loop-at-init
-loop-at-init c = triangles_start 8 c.args.k c.args.x.now
-
-pub triangle-sum-requires : goal.triangle-sum-requires
-triangle-sum-requires c = omega (arith, room (goal.at.triangle-sum-requires c).In-loop-at, tail_room c.loop-at.at c.args.x.now)
-
-pub overflow_add-at : goal.overflow_add-at
-overflow_add-at c = omega (arith, room (goal.at.overflow_add-at c).In-loop-at)
-
-pub loop-at-smaller : goal.loop-at-smaller
-loop-at-smaller c = omega (arith, room (goal.at.loop-at-smaller c).In-loop-at)
-
-pub loop-at-preserved : goal.loop-at-preserved
-loop-at-preserved c =
+pub loop-triangular-init : goal.loop-triangular-init
+loop-triangular-init c =
     let a = c.args in
-    triangles_step 8 a.k a.x.now c.loop-at.sum c.loop-at.at _ c.loop-at.invariant (search rules) (tail_is c.loop-at.at a.x.now) c.triangle-sum.ensures
+    let e = c.chunks_exact-triangular-items.ensures in
+    let t = triangle_total a.k in
+    rw c.into_iter-triangular-iterator.ensures.into_iter_gives
+    (parts_start (degrees_to a.k) 8 a.x.now _ _ _ (omega (arith, e.size)) (omega arith) (omega arith) e.rest)
+
+pub loop-triangular-preserved : goal.loop-triangular-preserved
+loop-triangular-preserved c =
+    let a = c.args in
+    let v = c.loop-triangular.invariant in
+    let s = c.in-Some.ensures.steps in
+    parts_step (degrees_to a.k) 8 a.x.now _ _ _ _ _ _ _ v (omega (arith, v.each, triangle_total a.k, triangle_holds a.k)) s.0 s.1.0 s.1.1 c.triangle-sum.ensures
 
 pub returns : goal.returns
-returns c =
-    let a = c.args in
-    triangles_end 8 a.k a.x.now c.loop-at.sum c.loop-at.at c.loop-at.invariant (search rules)
+returns c = parts_end (degrees_to c.args.k) 8 c.args.x.now _ _ _ c.loop-triangular.invariant c.in-None.ensures.steps.1.0

@@ -1,9 +1,6 @@
-use Prim.Native.Nat.{◌-◌}
-use Rattle.filter.proofs.Parts.{Triangles}
+use Rattle.filter.specs.Instances.{degrees_to}
+use Rattle.filter.proofs.Parts.{Parts}
 use Rattle.filter.proofs.triangles.Given as goal
 
-abbrev pub invariant-loop-at : goal.invariant-loop-at
-invariant-loop-at l = Triangles 8 l.k l.x l.sum l.at
-
-abbrev pub decreases-loop-at : goal.decreases-loop-at
-decreases-loop-at l = l.end - l.at
+abbrev pub invariant-loop-triangular : goal.invariant-loop-triangular
+invariant-loop-triangular l = Parts (degrees_to l.k) 8 l.x l.sum l.triangular-iterator.size l.triangular-iterator.rest.now

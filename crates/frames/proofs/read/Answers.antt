@@ -1,22 +1,30 @@
-use mathlib.Core.Path.{refl, sym, ◌∙◌}
-use lib.ListN.{length}
+use mathlib.Core.Path.{◌≡◌, refl, sym, ap, ◌∙◌}
+use mathlib.Core.List.{List}
+use Prim.Native.Nat.{ℕ}
+use native.Mathlib.Omega.{arith}
+use Rattle.std.specs.Prelude.{Err}
+use Rattle.answer.specs.Fronts.{over}
+use Rattle.sequence.specs.Files.{frames_in}
+use Rattle.frames.specs.Frames.{records_in}
 use Rattle.answer.proofs.Over.{kept, made}
-use Rattle.frames.proofs.Judged.{ReadLent, read_lent}
-use Rattle.frames.proofs.read.Goals.{In-Done}
+use Rattle.frames.proofs.Judged.{read_lent}
 use Rattle.frames.proofs.read.Goals as goal
 
-pub returns-in_default : goal.returns-in_default
-returns-in_default c = record { answered = c.read-r.ensures; written = kept _ _ c.in_default.is }
+pub returns-in_err-read : goal.returns-in_err-read
+returns-in_err-read c =
+    let e : c.from_residual.result ≡ Err c.in_err-read.field-0.0 = grind arith in
+    record { answered = e ∙ sym c.in_err-read.was ∙ c.read.ensures; written = kept _ _ e }
 
--- what Done tells of what was lent
-lent : (c : In-Done) → let a = c.args in ReadLent a.key.now a.file.now (length a.records.now)
-lent c = read_lent _ _ _ (sym c.read-r.ensures ∙ c.in-Done.is)
+pub lent-requires : goal.lent-requires
+lent-requires c = (read_lent _ _ _ (sym c.read.ensures ∙ c.in_ok-read.was)).keyed
 
 pub put_records-requires : goal.put_records-requires
 put_records-requires c =
-    let l = lent (goal.at.put_records-requires c).In-Done in
-    (l.keyed, l.whole, l.room)
+    let l = read_lent _ _ _ (sym c.read.ensures ∙ c.in_ok-read.was) in
+    record { whole = l.whole; room = l.room }
 
 pub returns : goal.returns
 returns c =
-    record { answered = sym c.in-Done.is ∙ c.read-r.ensures; written = c.put_records.ensures ∙ made _ _ refl }
+    let file = c.args.file.now in
+    let e = ap (λ (k : List ℕ). over (records_in k file (frames_in file)) c.args.records.now) c.lent.ensures in
+    record { answered = sym c.in_ok-read.was ∙ c.read.ensures; written = c.put_records.ensures ∙ e ∙ made _ _ refl }

@@ -37,25 +37,25 @@ pub copy-requires : goal.copy-requires
 copy-requires c =
     omega (arith, gates (goal.at.copy-requires c).After-put_header, c.requires.space, c.put_header.auto.out)
 
+pub slice_bounds-seam-count : goal.slice_bounds-seam-count
+slice_bounds-seam-count c =
+    omega (arith, gates (goal.at.slice_bounds-seam-count c).After-put_header, c.requires.first.size)
+
+pub slice_bounds-seam-start : goal.slice_bounds-seam-start
+slice_bounds-seam-start c =
+    omega (arith, gates (goal.at.slice_bounds-seam-start c).After-put_header, c.requires.first.size)
+
+pub overflow_add-seam : goal.overflow_add-seam
+overflow_add-seam c =
+    omega (arith, gates (goal.at.overflow_add-seam c).After-put_header, inputs (goal.at.overflow_add-seam c).After-put_header, c.requires.first.limits)
+
 pub slice_bounds-put_second-count : goal.slice_bounds-put_second-count
 slice_bounds-put_second-count c =
-    omega (arith, gates (goal.at.slice_bounds-put_second-count c).After-put_header, c.requires.first.size)
+    omega (arith, gates (goal.at.slice_bounds-put_second-count c).After-put_header, c.requires.space, c.put_header.auto.out)
 
 pub slice_bounds-put_second-start : goal.slice_bounds-put_second-start
 slice_bounds-put_second-start c =
-    omega (arith, gates (goal.at.slice_bounds-put_second-start c).After-put_header, c.requires.first.size)
-
-pub overflow_add-inputs : goal.overflow_add-inputs
-overflow_add-inputs c =
-    omega (arith, gates (goal.at.overflow_add-inputs c).After-put_header, inputs (goal.at.overflow_add-inputs c).After-put_header, c.requires.first.limits)
-
-pub slice_bounds-put_second-count-2 : goal.slice_bounds-put_second-count-2
-slice_bounds-put_second-count-2 c =
-    omega (arith, gates (goal.at.slice_bounds-put_second-count-2 c).After-put_header, c.requires.space, c.put_header.auto.out)
-
-pub slice_bounds-put_second-start-2 : goal.slice_bounds-put_second-start-2
-slice_bounds-put_second-start-2 c =
-    omega (arith, gates (goal.at.slice_bounds-put_second-start-2 c).After-put_header, c.requires.space, c.put_header.auto.out)
+    omega (arith, gates (goal.at.slice_bounds-put_second-start c).After-put_header, c.requires.space, c.put_header.auto.out)
 
 pub put_second-requires : goal.put_second-requires
 put_second-requires c =

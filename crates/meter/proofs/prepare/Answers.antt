@@ -1,14 +1,12 @@
-use Rattle.meter.proofs.Promise.{unmeasured_plan, roomless_plan, planned}
+use native.Mathlib.Omega.{arith}
+use Rattle.meter.proofs.Promise.{unmeasured, roomless, prepared}
 use Rattle.meter.proofs.prepare.Goals as goal
 
-pub returns-in_default : goal.returns-in_default
-returns-in_default c = unmeasured_plan c.measure-p.ensures c.in_default.is c.refused.ensures
+pub returns-in_err-measured : goal.returns-in_err-measured
+returns-in_err-measured c = unmeasured _ c.in_err-measured.ensures (grind arith)
 
-pub returns-in_default-fits : goal.returns-in_default-fits
-returns-in_default-fits c =
-    roomless_plan c.measure-p.ensures c.in-Done.is _ c.room-fits.ensures c.in_default-fits.is c.refused-in_default-fits.ensures
+pub returns-in_err-room : goal.returns-in_err-room
+returns-in_err-room c = roomless c.in_ok-measured.ensures _ c.room.ensures c.in_err-room.was (grind arith)
 
 pub returns : goal.returns
-returns c =
-    rw c.counts_of-c.ensures
-    (planned c.measure-p.ensures c.in-Done.is _ c.room-fits.ensures c.in-Done-fits.is)
+returns c = prepared c.in_ok-measured.ensures _ c.room.ensures c.in_ok-room.was

@@ -3,9 +3,8 @@ use mathlib.Core.Path.{◌≡◌, ap, ◌∙◌}
 use mathlib.Core.List.{List}
 use native.Mathlib.Numerals.{add-one}
 use native.Mathlib.Omega.{arith}
-use lib.ListN.{length, get_or, set, length-set}
+use lib.ListN.{length, get_or, set}
 use lib.Seq.{get_or-set_same, set-set}
-use borrow.Author.Rules.{rules}
 use Rattle.meter.specs.declared.Level.{Level}
 use Rattle.meter.specs.declared.Spot.{Spot}
 use Rattle.meter.specs.Levels.{spot_of}
@@ -40,23 +39,23 @@ sums : (c : After-spot_of-s) →
     let v = get_or c.loop-g.levels c.spot_of-s.result.at no_gates in
     (v.ands + c.spot_of-s.result.ands < 2 ^ 32) × (v.muxes + c.spot_of-s.result.muxes < 2 ^ 32)
 sums c =
-    rw c.loop-g.invariant.3
+    rw c.loop-g.invariant.1
     (sums_fit c.args.levels.now c.requires.countable c.loop-g.g c.loop-g-test.true c.spot_of-s.ensures (c.requires.none c.loop-g.g c.loop-g-test.true))
 
 more : (c : After-spot_of-s) → c.loop-g.n + c.spot_of-s.result.multiplications ≡ gained (spot_of c.args.net.now c.args.depths.now) (c.loop-g.g + 1)
 more c =
-    rw (add-one, c.loop-g.invariant.2)
+    rw (add-one, c.loop-g.invariant.0)
     (gained-more c.args.levels.now c.requires.countable c.loop-g.g c.loop-g-test.true c.spot_of-s.ensures)
 
 counted : (c : After-spot_of-s) →
     let s = c.spot_of-s.result in
     set c.loop-g.levels s.at (bump (get_or c.loop-g.levels s.at no_gates) s) ≡ tallied (spot_of c.args.net.now c.args.depths.now) (c.loop-g.g + 1) c.args.levels.now
 counted c =
-    rw (add-one, c.loop-g.invariant.3)
+    rw (add-one, c.loop-g.invariant.1)
     (tallied-more (spot_of c.args.net.now c.args.depths.now) c.args.levels.now c.loop-g.g c.spot_of-s.ensures)
 
 pub loop-g-init : goal.loop-g-init
-loop-g-init c = (search rules, search rules, sum_none _, tallied_none _ _)
+loop-g-init c = (sum_none _, tallied_none _ _)
 
 pub overflow_add-levels : goal.overflow_add-levels
 overflow_add-levels c = omega (arith, sums (goal.at.overflow_add-levels c).After-spot_of-s)
@@ -74,4 +73,4 @@ overflow_add-n c =
 pub loop-g-preserved : goal.loop-g-preserved
 loop-g-preserved c =
     let p = (goal.at.loop-g-preserved c).After-spot_of-s in
-    (omega arith, simp length-set c.loop-g.invariant.1, more p, both_written c.loop-g.levels c.spot_of-s.result (inside p) ∙ counted p)
+    (more p, both_written c.loop-g.levels c.spot_of-s.result (inside p) ∙ counted p)

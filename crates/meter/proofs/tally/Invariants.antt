@@ -1,14 +1,9 @@
-use Prim.Native.Nat.{◌≤◌, ◌-◌}
 use mathlib.Core.Path.{◌≡◌}
-use lib.ListN.{length}
 use Rattle.meter.specs.Levels.{spot_of}
 use Rattle.meter.specs.InnerLevels.{tallied, gained}
 use Rattle.meter.proofs.tally.Given as goal
 
 abbrev pub invariant-loop-g : goal.invariant-loop-g
 invariant-loop-g l =
-    (l.g ≤ l.gates) × (length l.levels ≡ length l.initial.levels) × (l.n ≡ gained (spot_of l.net l.depths) l.g)
+    (l.n ≡ gained (spot_of l.net l.depths) l.g)
     × (l.levels ≡ tallied (spot_of l.net l.depths) l.g l.initial.levels)
-
-abbrev pub decreases-loop-g : goal.decreases-loop-g
-decreases-loop-g l = l.gates - l.g

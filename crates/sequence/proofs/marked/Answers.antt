@@ -5,6 +5,6 @@ use Rattle.sequence.proofs.marked.Goals as goal
 pub returns : goal.returns
 returns c =
     let a = c.args in
-    let k = c.shared_slice_known-1.given in
-    rw (c.wide.ensures.0, c.wide-2.ensures.0)
+    let k = c.type_inv.s in
+    rw c.from_le_bytes.ensures
     (begins_mark a.s.now a.at c.requires (omega (arith, k a.at)) (omega (arith, k (a.at + 1))))

@@ -1,20 +1,19 @@
 use native.Mathlib.Omega.{arith}
 use mathlib.Core.Path.{sym}
-use lib.Seq.{length-take-le}
-use Rattle.text.proofs.Cases.{keep_none, room_fits, keep_all}
+use Rattle.text.proofs.Cases.{keep_none, keep_room, keep_place, keep_all}
 use Rattle.text.proofs.keep.Goals as goal
 
-pub returns-in_default : goal.returns-in_default
-returns-in_default c = keep_none _ _ _ _ c.requires c.room-r.ensures c.in_default.is
+pub returns-in_err-room : goal.returns-in_err-room
+returns-in_err-room c = keep_none _ _ _ c.room.ensures _ _ c.in_err-room.was (grind arith)
 
-pub slice_bounds-put_bytes-end : goal.slice_bounds-put_bytes-end
-slice_bounds-put_bytes-end c =
-    sym (length-take-le _ _ c.requires)
+pub slice_bounds-copy_from_slice-end : goal.slice_bounds-copy_from_slice-end
+slice_bounds-copy_from_slice-end c = keep_room _ _ _ c.room.ensures c.in_ok-room.was
 
-pub put_bytes-end-requires : goal.put_bytes-end-requires
-put_bytes-end-requires c =
-    record { fits = omega (arith, length-take-le c.args.size c.args.text.now c.requires, room_fits _ _ _ c.room-r.ensures c.in-Done.is) }
+pub slice_bounds-copy_from_slice-end-2 : goal.slice_bounds-copy_from_slice-end-2
+slice_bounds-copy_from_slice-end-2 c = sym (keep_place _ _ _ c.room.ensures c.in_ok-room.was)
+
+pub copy_from_slice-requires : goal.copy_from_slice-requires
+copy_from_slice-requires c = keep_place _ _ _ c.room.ensures c.in_ok-room.was
 
 pub returns : goal.returns
-returns c =
-    keep_all _ _ _ _ _ _ c.requires c.room-r.ensures c.in-Done.is c.put_bytes-end.ensures
+returns c = keep_all _ _ _ c.room.ensures c.in_ok-room.was _ c.copy_from_slice.ensures.after

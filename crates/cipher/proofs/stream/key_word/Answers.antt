@@ -4,11 +4,13 @@ use Rattle.instance.specs.Table.{sizes_of}
 use Rattle.instance.specs.Keys.{Keyed, key_in}
 use Rattle.cipher.proofs.stream.key_word.Goals as goal
 
+pub invariant_of-word : goal.invariant_of-word
+unfolding Keyed
+invariant_of-word c = record { small = bits-within c.args.key.now c.requires.0.bit }
+
 pub word-requires : goal.word-requires
 unfolding Keyed sizes_of
-word-requires c =
-    let k = c.requires.0 in
-    (omega (arith, k.size, c.requires.1), bits-within c.args.key.now k.bit)
+word-requires c = omega (arith, c.requires.0.size, c.requires.1)
 
 pub returns : goal.returns
 unfolding key_in

@@ -1,6 +1,4 @@
-use Prim.Native.Nat.{◌-◌, ◌≤◌}
 use mathlib.Core.Path.{◌≡◌}
-use lib.ListN.{length}
 use lib.Seq.{sets}
 use Rattle.netlist.specs.Words.{header_words}
 use Rattle.records.specs.Bytes.{joined}
@@ -8,7 +6,4 @@ use Rattle.records.specs.File.{four_in, start_of}
 use Rattle.file.proofs.read.read_gates.Given as goal
 
 abbrev pub invariant-loop-g : goal.invariant-loop-g
-invariant-loop-g l = (l.g ≤ l.gates) × (l.out ≡ sets l.initial.out header_words (joined l.g (four_in l.form l.s))) × (l.at ≡ start_of l.form l.s l.g) × (length l.out ≡ length l.initial.out)
-
-abbrev pub decreases-loop-g : goal.decreases-loop-g
-decreases-loop-g l = l.gates - l.g
+invariant-loop-g l = (l.out ≡ sets l.initial.out header_words (joined l.g (four_in l.form l.s))) × (l.at ≡ start_of l.form l.s l.g)

@@ -1,4 +1,4 @@
-use Prim.Native.Nat.{◌*◌, ◌+◌, ◌-◌, ◌≤◌}
+use Prim.Native.Nat.{◌*◌, ◌+◌, ◌≤◌}
 use mathlib.Core.Path.{◌≡◌}
 use lib.ListN.{length}
 use Rattle.records.specs.Bytes.{joined}
@@ -7,7 +7,4 @@ use Rattle.file.specs.File.{gate_bytes}
 use Rattle.file.proofs.write.file_size.Given as goal
 
 abbrev pub invariant-loop-g : goal.invariant-loop-g
-invariant-loop-g l = (l.g ≤ l.gates) × (l.at ≡ head_size + length (joined l.g (gate_bytes l.form l.net))) × (l.at ≤ head_size + 15 * l.g)
-
-abbrev pub decreases-loop-g : goal.decreases-loop-g
-decreases-loop-g l = l.gates - l.g
+invariant-loop-g l = (l.size ≡ head_size + length (joined l.g (gate_bytes l.form l.net))) × (l.size ≤ head_size + 15 * l.g)

@@ -1,4 +1,4 @@
-use Prim.Native.Nat.{◌+◌, ◌-◌, ◌≤◌}
+use Prim.Native.Nat.{◌+◌}
 use mathlib.Core.Path.{◌≡◌}
 use lib.ListN.{length}
 use lib.Seq.{sets}
@@ -9,9 +9,5 @@ use Rattle.file.proofs.write.put_gates.Given as goal
 
 abbrev pub invariant-loop-g : goal.invariant-loop-g
 invariant-loop-g l =
-    (l.g ≤ l.gates) × (l.out ≡ sets l.initial.out head_size (joined l.g (gate_bytes l.form l.net)))
+    (l.out ≡ sets l.initial.out head_size (joined l.g (gate_bytes l.form l.net)))
     × (l.at ≡ head_size + length (joined l.g (gate_bytes l.form l.net)))
-    × (length l.out ≡ length l.initial.out)
-
-abbrev pub decreases-loop-g : goal.decreases-loop-g
-decreases-loop-g l = l.gates - l.g

@@ -1,12 +1,9 @@
-use Prim.Native.Nat.{ℕ, ◌+◌, ◌*◌, ◌/◌, ◌%◌}
-use mathlib.Core.Path.{ap₂, ◌∙◌}
+use mathlib.Core.Path.{refl}
+use native.Mathlib.Omega.{arith}
 use Rattle.frames.proofs.Spreading.{eight_gathered}
-use borrow.Author.Rules.{rules}
 use Rattle.frames.proofs.bytes.eight.Goals as goal
 
 pub returns : goal.returns
-returns c = (
-  ap₂ (λ (x y : ℕ). (x * 16 + y) * 134480385 / 16777216 % 256) c.four.ensures.0 c.four-2.ensures.0
-      ∙ eight_gathered c.args.s.now c.args.at c.requires.1,
-  search rules,
-)
+returns c =
+    let h = rw c.unwrap.ensures at c.try_into.ensures in
+    (eight_gathered c.args.s.now c.args.at c.requires.1 h.1.same c.from_le_bytes-y.ensures refl, omega arith)

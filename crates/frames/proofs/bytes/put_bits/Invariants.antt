@@ -1,13 +1,9 @@
-use Prim.Native.Nat.{◌-◌, ◌%◌, ◌≤◌}
+use Prim.Native.Nat.{◌*◌}
 use mathlib.Core.Path.{◌≡◌}
-use lib.ListN.{length}
+use lib.ListN.{take}
 use Rattle.answer.specs.Fronts.{over}
-use Rattle.filter.specs.Filter.{tab}
-use Rattle.cipher.proofs.Block.{block_bit}
+use Rattle.kreyvium.specs.Words.{tops}
 use Rattle.frames.proofs.bytes.put_bits.Given as goal
 
 abbrev pub invariant-loop-i : goal.invariant-loop-i
-invariant-loop-i l = (l.out ≡ over (tab (block_bit l.x) l.i) l.initial.out) × (l.i ≤ 64) × (l.i % 8 ≡ 0) × (length l.out ≡ length l.initial.out)
-
-abbrev pub decreases-loop-i : goal.decreases-loop-i
-decreases-loop-i l = 64 - l.i
+invariant-loop-i l = l.out ≡ over (take (8 * l.i) (tops 64 l.x)) l.initial.out

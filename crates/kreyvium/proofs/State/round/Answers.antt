@@ -9,9 +9,9 @@ pub returns : goal.returns
 unfolding state_of
 returns c =
     registers_eq
-    (c.entered-a1.ensures 93 (omega arith))
-    (c.entered-b1.ensures 84 (omega arith))
-    (c.entered-c1.ensures 111 (omega arith))
-    (c.entered-k1.ensures 128 (omega arith))
-    (c.entered-v1.ensures 128 (omega arith))
+    (c.entered.ensures 93 (omega arith))
+    (c.entered-2.ensures 84 (omega arith))
+    (c.entered-3.ensures 111 (omega arith))
+    (c.entered-4.ensures 128 (omega arith))
+    (c.entered-5.ensures 128 (omega arith))
     ∙ one_round _ _ c.entry-e.ensures

@@ -4,6 +4,7 @@ use mathlib.Core.Path.{◌≡◌, sym, ◌∙◌}
 use native.Mathlib.Omega.{arith}
 use lib.Dec.{ltb, leb}
 use borrow.Author.Tests.{lt-ltb, le-ltb, le-leb, lt-leb}
+use Rattle.answer.specs.declared.Reason.TheVariants.{Netlist}
 use Rattle.answer.specs.Choose.{choose}
 use Rattle.answer.proofs.Rows.{refuse_yes, refuse_not}
 use Rattle.netlist.specs.Check.{operand_answer}
@@ -35,8 +36,8 @@ overflow_add-limit c = omega (arith, limit_most c.args.used c.args.wire 42949672
 pub returns-then-limit-x : goal.returns-then-limit-x
 unfolding operand_answer
 returns-then-limit-x c =
-    c.refused.ensures ∙ refuse_yes 9 _ _ (high c.args.used c.args.wire c.args.x c.requires c.if-limit-x.true)
+    c.refused.ensures ∙ refuse_yes Netlist _ _ (high c.args.used c.args.wire c.args.x c.requires c.if-limit-x.true)
 
 pub returns : goal.returns
 unfolding operand_answer
-returns c = sym (refuse_not 9 _ _ (low c.args.used c.args.wire c.args.x c.requires c.if-limit-x.false))
+returns c = sym (refuse_not Netlist _ _ (low c.args.used c.args.wire c.args.x c.requires c.if-limit-x.false))

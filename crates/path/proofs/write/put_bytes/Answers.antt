@@ -1,33 +1,17 @@
-use mathlib.Core.Path.{refl, sym, ◌∙◌}
+use Prim.Native.Nat.{ℕ, ◌+◌, ◌-◌, ◌≤◌}
+use mathlib.Core.Path.{◌≡◌, sym, ◌∙◌}
+use mathlib.Core.List.{List, append_assoc}
 use native.Mathlib.Omega.{arith}
-use lib.ListN.{length-set}
-use Rattle.netlist.proofs.Puts.{copy_turn, copy_end}
+use lib.ListN.{length, take, drop}
+use lib.Seq.{sets, sets-eq}
+use borrow.Rule.Slice.PartMut.{put_mid, Post-is}
 use Rattle.path.proofs.write.put_bytes.Goals as goal
 
-pub loop-j-init : goal.loop-j-init
-loop-j-init c = (refl, refl, omega arith, omega arith)
-
-pub bounds-from-j : goal.bounds-from-j
-bounds-from-j c = omega arith
-
-pub bounds-out-i : goal.bounds-out-i
-bounds-out-i c = omega arith
-
-pub overflow_add-i : goal.overflow_add-i
-overflow_add-i c = omega arith
-
-pub overflow_add-j : goal.overflow_add-j
-overflow_add-j c = omega arith
-
-pub loop-j-smaller : goal.loop-j-smaller
-loop-j-smaller c = omega arith
-
-pub loop-j-preserved : goal.loop-j-preserved
-loop-j-preserved c =
-    (copy_turn _ _ _ _ c.loop-j-test.true ∙ c.loop-j.invariant.0, simp length-set c.loop-j.invariant.1, omega arith, omega arith)
-
-pub shape_of-out : goal.shape_of-out
-shape_of-out c = c.loop-j.invariant.1
+copied : (out from : List ℕ) (at : ℕ) {new : List ℕ} → at + length from ≤ length out → new ≡ from
+    → put_mid at (at + length from - at) out new ≡ sets out at from
+copied out from at h e =
+    rw (Post-is at (at + length from) out (omega arith), e)
+    (sym (append_assoc (take at out) from (drop (at + length from) out)) ∙ sym (sets-eq from out at h))
 
 pub returns : goal.returns
-returns c = sym (copy_end _ _ _ _ c.loop-j-test.false) ∙ c.loop-j.invariant.0
+returns c = copied c.args.out.now c.args.from.now c.args.at c.requires c.copy_from_slice.ensures.after

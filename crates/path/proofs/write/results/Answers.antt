@@ -12,13 +12,13 @@ abbrev call : Start → Call
 call s =
     let a = s.args in
     record {
-      inst = a.instance;
-      m = a.m;
-      key = a.key.now;
-      rec = a.«record».now;
-      idx = a.indices.now;
-      wh = a.whitening.now;
-      score = a.scoring.now;
+      inst = a.call.instance;
+      m = a.call.m;
+      key = a.call.key.now;
+      rec = a.call.«record».now;
+      idx = a.call.indices.now;
+      wh = a.call.whitening.now;
+      score = a.call.scoring.now;
       enc = a.enciphered.now;
       net = a.deciphering.now;
       glued = a.glued.now;
@@ -65,14 +65,31 @@ join_inputs-requires c =
 
 pub overflow_add-sizes : goal.overflow_add-sizes
 overflow_add-sizes c =
-    record { fits = omega (arith, ap Sizes.key c.sizes_of-sizes.ensures, key_small c.args.instance) }
+    record { fits = omega (arith, ap Sizes.key c.sizes_of-sizes.ensures, key_small c.args.call.instance) }
+
+pub slice_bounds-evaluate_front-end : goal.slice_bounds-evaluate_front-end
+slice_bounds-evaluate_front-end c =
+    let s = call (goal.at.slice_bounds-evaluate_front-end c).Start in
+    let e = enciphered s c.requires c.encipher.ensures in
+    let n = emitted s c.requires c.emit_decipher.ensures in
+    let r = glued_ready s c.requires e n c.glue_behind.ensures c.join_inputs.ensures in
+    rw (ap Sizes.key c.sizes_of-sizes.ensures) r.1
+
+pub slice_bounds-evaluate_front-end-2 : goal.slice_bounds-evaluate_front-end-2
+slice_bounds-evaluate_front-end-2 c =
+    let s = call (goal.at.slice_bounds-evaluate_front-end-2 c).Start in
+    let e = enciphered s c.requires c.encipher.ensures in
+    let n = emitted s c.requires c.emit_decipher.ensures in
+    let r = glued_ready s c.requires e n c.glue_behind.ensures c.join_inputs.ensures in
+    sym (length-take-le _ _ (rw (ap Sizes.key c.sizes_of-sizes.ensures) r.1))
 
 pub evaluate_front-requires : goal.evaluate_front-requires
 evaluate_front-requires c =
     let s = call (goal.at.evaluate_front-requires c).Start in
     let e = enciphered s c.requires c.encipher.ensures in
     let n = emitted s c.requires c.emit_decipher.ensures in
-    rw (ap Sizes.key c.sizes_of-sizes.ensures) (glued_ready s c.requires e n c.glue_behind.ensures c.join_inputs.ensures)
+    let r = glued_ready s c.requires e n c.glue_behind.ensures c.join_inputs.ensures in
+    rw (ap Sizes.key c.sizes_of-sizes.ensures) (r.0, r.2)
 
 pub returns : goal.returns
 returns c =

@@ -1,29 +1,37 @@
-use mathlib.Core.Path.{refl}
+use native.Mathlib.Omega.{arith}
 use Rattle.port.specs.Layout.{port_made}
-use Rattle.port.proofs.Layouts.{too_large, next}
-use borrow.Author.Rules.{rules}
+use Rattle.port.proofs.Layouts.{large_by, next}
 use Rattle.port.proofs.Port.new.Goals as goal
 
-pub returns-then-number-ge65536 : goal.returns-then-number-ge65536
+pub returns-in_err-room : goal.returns-in_err-room
 unfolding port_made
-returns-then-number-ge65536 c = too_large 1 16 _ _ (search rules)
+returns-in_err-room c = large_by _ _ _ _ (grind arith) c.room.ensures c.in_err-room.was
 
-pub returns-then-admin-ge2 : goal.returns-then-admin-ge2
+pub returns-in_err-room-2 : goal.returns-in_err-room-2
 unfolding port_made
-returns-then-admin-ge2 c = next 1 16 _ (search rules) (too_large 2 1 _ _ (search rules))
+returns-in_err-room-2 c =
+    next _ _ _ _ c.room.ensures c.in_ok-room.was (large_by _ _ _ _ (grind arith) c.room-2.ensures c.in_err-room-2.was)
 
-pub returns-then-link-ge2 : goal.returns-then-link-ge2
+pub returns-in_err-room-3 : goal.returns-in_err-room-3
 unfolding port_made
-returns-then-link-ge2 c = next 1 16 _ (search rules) (next 2 1 _ (search rules) (too_large 3 1 _ _ (search rules)))
+returns-in_err-room-3 c =
+    next _ _ _ _ c.room.ensures c.in_ok-room.was
+    (next _ _ _ _ c.room-2.ensures c.in_ok-room-2.was
+    (large_by _ _ _ _ (grind arith) c.room-3.ensures c.in_err-room-3.was))
 
-pub returns-then-errors-ge4194304 : goal.returns-then-errors-ge4194304
+pub returns-in_err-room-4 : goal.returns-in_err-room-4
 unfolding port_made
-returns-then-errors-ge4194304 c = next 1 16 _ (search rules) (next 2 1 _ (search rules) (next 3 1 _ (search rules) (too_large 4 22 _ _ (search rules))))
+returns-in_err-room-4 c =
+    next _ _ _ _ c.room.ensures c.in_ok-room.was
+    (next _ _ _ _ c.room-2.ensures c.in_ok-room-2.was
+    (next _ _ _ _ c.room-3.ensures c.in_ok-room-3.was
+    (large_by _ _ _ _ (grind arith) c.room-4.ensures c.in_err-room-4.was)))
 
-pub returns-then-load-ge16777216 : goal.returns-then-load-ge16777216
+pub returns-in_err-room-5 : goal.returns-in_err-room-5
 unfolding port_made
-returns-then-load-ge16777216 c = next 1 16 _ (search rules) (next 2 1 _ (search rules) (next 3 1 _ (search rules) (next 4 22 _ (search rules) (too_large 5 24 _ _ (search rules)))))
-
-pub returns : goal.returns
-unfolding port_made
-returns c = next 1 16 _ (search rules) (next 2 1 _ (search rules) (next 3 1 _ (search rules) (next 4 22 _ (search rules) (next 5 24 _ (search rules) refl))))
+returns-in_err-room-5 c =
+    next _ _ _ _ c.room.ensures c.in_ok-room.was
+    (next _ _ _ _ c.room-2.ensures c.in_ok-room-2.was
+    (next _ _ _ _ c.room-3.ensures c.in_ok-room-3.was
+    (next _ _ _ _ c.room-4.ensures c.in_ok-room-4.was
+    (large_by _ _ _ _ (grind arith) c.room-5.ensures c.in_err-room-5.was))))

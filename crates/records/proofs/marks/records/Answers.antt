@@ -1,13 +1,7 @@
-use Rattle.records.proofs.Judged.{records_go, records_stop, whole_counts_lem}
+use native.Mathlib.Omega.{arith}
+use Rattle.records.proofs.Judged.{outs_stop, whole_counts_lem}
 use Rattle.records.proofs.marks.records.Goals as goal
 
-pub returns-in_default : goal.returns-in_default
-returns-in_default c =
-    records_stop _ _ _ (whole_counts_lem _ c.requires c.counts_in-counts.ensures) c.gate_records-w.ensures c.in_default.is
-
-pub out_records-requires : goal.out_records-requires
-out_records-requires c = (c.gate_records-w.ensures.ends c.in-Done.is).1
-
-pub returns : goal.returns
-returns c =
-    records_go _ _ _ (whole_counts_lem _ c.requires c.counts_in-counts.ensures) c.gate_records-w.ensures c.in-Done.is c.out_records.ensures
+pub returns-in_err-out_records : goal.returns-in_err-out_records
+returns-in_err-out_records c =
+    outs_stop _ _ _ (whole_counts_lem _ c.requires c.counts_in-counts.ensures) c.gate_records.ensures c.in_ok-from.was c.out_records.ensures c.in_err-out_records.was (grind arith)

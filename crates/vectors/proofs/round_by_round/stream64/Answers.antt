@@ -6,4 +6,4 @@ pub returns : goal.returns
 unfolding stream_of
 returns c = λ n h.
     c.outputs.ensures n h
-    ∙ ap (stream n) (c.warmed-t.ensures ∙ ap (rounds 1152) c.load-s.ensures)
+    ∙ ap (stream n) (c.warmed.ensures ∙ ap (rounds 1152) c.load.ensures)

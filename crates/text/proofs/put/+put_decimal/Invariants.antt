@@ -1,4 +1,0 @@
-use Rattle.text.proofs.put.+put_decimal.Given as goal
-
-abbrev pub decreases-put_decimal : goal.decreases-put_decimal
-decreases-put_decimal l = l.n
