@@ -1,5 +1,5 @@
 -- Laws of the judges that calls share: what done tells of each, what gives it, and what code that judges leans on.
-use Prim.Native.Nat.{ℕ, zero, suc, ◌<◌, ◌≤◌}
+use Prim.Native.Nat.{ℕ, zero, suc, ◌+◌, ◌<◌, ◌≤◌}
 use mathlib.Core.Bool.{Bool, false, not}
 use mathlib.Core.Path.{◌≡◌, sym, ap}
 use mathlib.Core.List.{List, [], ◌∷◌}
@@ -12,11 +12,11 @@ use Rattle.std.specs.Prelude.{Ok}
 use Rattle.answer.specs.declared.Reason.{Reason}
 use Rattle.answer.specs.declared.Reason.TheVariants.{Length, Bit, Room}
 use Rattle.answer.specs.Answers.{refused, refuse}
-use Rattle.answer.specs.First.{first}
+use Rattle.answer.specs.First.{first, Scan}
 use Rattle.answer.specs.Judges.{length_answer, first_answer, room_answer}
 use Rattle.answer.specs.Bits.{above_one, bits_answer, or_all}
 use Rattle.answer.proofs.Rows.{refuse_done, refuse_not}
-use Rattle.answer.proofs.Search.{first_none, none_below}
+use Rattle.answer.proofs.Search.{scan_hit, scan_miss, first_none, none_below}
 
 -- ---- the first place at which a test holds
 
@@ -82,3 +82,12 @@ or_above s (suc n) k h =
       | yes q ↦ (let z : k ≡ n = omega arith in rw z (omega (arith, or_add_and a b, and_le_l a b)))
       | no q ↦ omega (arith, or_above s n k (omega arith), or_add_and a b, and_le_r a b)
     ]
+
+-- for a walk that looks for a byte that is no bit: it stands at one, or at a bit
+pub no_bit_hit : (s : List ℕ) (i : ℕ) → Scan (above_one s) (length s) i → i < length s → 1 < get_or s i 0 → i ≡ first (above_one s) (length s)
+unfolding above_one
+no_bit_hit s i v l h = scan_hit (above_one s) _ _ v l (lt-ltb _ _ h)
+
+pub no_bit_miss : (s : List ℕ) (i : ℕ) → Scan (above_one s) (length s) i → i < length s → get_or s i 0 ≤ 1 → Scan (above_one s) (length s) (i + 1)
+unfolding above_one
+no_bit_miss s i v l h = scan_miss (above_one s) _ _ v l (le-ltb _ _ h)

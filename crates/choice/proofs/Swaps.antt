@@ -37,6 +37,9 @@ module _ (s : List ℕ) where
   fill_more i h =
       over_next (up_to i) s i i (up_to-length i) h ∙ ap (λ (n : ℕ). over (up_to n) s) (sym (add-one i))
 
+  pub fill_all : (i n : ℕ) → i ≤ n → n ≤ i → over (up_to i) s ≡ over (up_to n) s
+  fill_all i n h l = ap (λ (k : ℕ). over (up_to k) s) (le_antisymm h l)
+
 -- Lengths.
 pub swap-length : (i j : ℕ) (s : List ℕ) → length (swap i j s) ≡ length s
 unfolding swap
@@ -74,6 +77,10 @@ swaps-front (d ∷ ds) i s t f =
     ap (swaps (suc i) ds) (swap-front i (i + d) s t (omega arith) h)
     ∙ swaps-front ds (suc i) (swap i (i + d) s) t
     (λ k l. omega (arith, f (suc k) (omega arith), swap-length i (i + d) s))
+
+pub wider : {N M : ℕ} {draws : List ℕ} → DrawsFit N draws → N ≤ M → DrawsFit M draws
+wider f h =
+    record { count = omega (arith, f.count); low = λ i l. omega (arith, f.low i l) }
 
 -- The row, from wires of which the first N were put in order and then swapped.
 pub row_right : (N : ℕ) (draws w₀ w₁ w₂ row : List ℕ) → DrawsFit N draws → w₁ ≡ over (up_to N) w₀ → w₂ ≡ swaps 0 draws w₁

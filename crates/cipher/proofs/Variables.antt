@@ -2,12 +2,13 @@
 use Prim.Native.Nat.{ℕ, ◌+◌, ◌-◌, ◌*◌, ◌%◌, ◌<◌, ◌≤◌}
 use mathlib.Core.Path.{◌≡◌, refl, ap, ap₂, sym, ◌∙◌}
 use mathlib.Core.List.{List, [], ◌∷◌, ◌++◌, append_assoc, append-nil}
+use mathlib.Core.Logic.{⊎_elim}
 use native.Mathlib.Omega.{arith}
-use native.Mathlib.Nat.{add-mul, one-mul, mul-le-mul_right}
+use native.Mathlib.Nat.{add-mul, one-mul, mul-le-mul_right, eq-or-lt_of_le}
 use native.Mathlib.Numerals.{add-one}
 use lib.Bits.{bit_xor, xor_add_and}
 use lib.ListN.{length, get_or, set, take, drop, length-take, length-drop}
-use lib.Seq.{get_or-take, get_or-drop, take-suc-set}
+use lib.Seq.{get_or-set_same, get_or-set_other, get_or-take, get_or-drop, take-suc-set}
 use Rattle.instance.specs.Table.{row_bits}
 use Rattle.filter.specs.Filter.{var, tab}
 use Rattle.filter.specs.Instances.{filter_of, row_bit}
@@ -18,6 +19,15 @@ use Rattle.cipher.specs.Rows.{stream_bit}
 pub low_bit : (bits row w : List ℕ) (j k : ℕ) → k % 2 ≡ get_or bits (get_or row j 0) 0 → bit_xor k (get_or w j 0) % 2 ≡ var bits row w j
 unfolding var
 low_bit bits row w j k e = omega (arith, xor_add_and k (get_or w j 0))
+
+-- one more place whose low bit is f's value
+pub filled_more : (f : ℕ → ℕ) (l : List ℕ) (t v : ℕ) → t < length l → v % 2 ≡ f t → ((s : ℕ) → s < t → get_or l s 0 % 2 ≡ f s)
+    → (s : ℕ) → s < t + 1 → get_or (set l t v) s 0 % 2 ≡ f s
+filled_more f l t v h e g s k =
+    ⊎_elim
+    (λ (q : s ≡ t). ap (λ (n : ℕ). get_or (set l t v) n 0 % 2) q ∙ ap (λ (y : ℕ). y % 2) (get_or-set_same l t v 0 h) ∙ e ∙ ap f (sym q))
+    (λ (q : s < t). ap (λ (y : ℕ). y % 2) (get_or-set_other l t s v 0 (λ (z : s ≡ t). omega arith)) ∙ g s q)
+    (eq-or-lt_of_le {n = s} {m = t} (omega arith))
 
 -- no value of a table yet, and one more, written behind a front
 pub written_none : (f : ℕ → ℕ) (x : List ℕ) (i : ℕ) → take (i + 0) x ≡ take i x ++ tab f 0

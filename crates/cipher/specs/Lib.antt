@@ -1,4 +1,4 @@
 pub mod Rows
 pub mod Cipher
 pub mod Inner
-pub mod Variables
+pub mod InnerVariables

@@ -29,7 +29,7 @@ fn key_bit(instance: u32, key: &[u8], p: usize) -> u8
 // Each method that fills x asks that as many indices are there: x is another list, and a ghost field speaks of its own
 // struct alone.
 impl Rows<'_> {
-    ghost use Rattle.cipher.specs.Variables.{variable_of, stream_rows};
+    ghost use Rattle.cipher.specs.InnerVariables.{variable_of, stream_rows};
 
     // A byte whose low bit is variable j, key[indices[j]] + whitening[j].
     fn variable(&self, j: usize) -> u8

@@ -10,9 +10,9 @@ most_place = 281474976710655
 unfoldable pub packed_of : Answer → ℕ
 packed_of a = number_of a + 256 * list_of a + 65536 * min (place_of a) most_place
 
--- the same of any answer: a list above 255 is given as 255
+-- the same of any answer: a number or a list above 255 is given as 255
 unfoldable pub capped_of : Answer → ℕ
-capped_of a = number_of a + 256 * min (list_of a) 255 + 65536 * min (place_of a) most_place
+capped_of a = min (number_of a) 255 + 256 * min (list_of a) 255 + 65536 * min (place_of a) most_place
 
 -- number and list have room in 8 bits
 pub record Packable (a : Answer) : Type 0 where

@@ -2,19 +2,33 @@
 // lists. A list passes as a pointer and a length, an answer as one number.
 #![tactic(auto)]
 
-ghost use Rattle.std.specs.Prelude.{◌≡◌};
+ghost use Rattle.std.specs.Prelude.{◌≡◌, min};
 ghost use Rattle.records.specs.declared.form.Form.{Form};
 ghost use Rattle.records.specs.File.{check_answer};
-ghost use Rattle.daemon.specs.Packed.{packed_of, capped_of};
+ghost use Rattle.daemon.specs.Packed.{most_place, packed_of, capped_of};
 ghost use Rattle.daemon.specs.Daemon.{Enciphered};
 ghost use Rattle.daemon.specs.Inner.{without_indices};
 
 use answer::{Answer, Refusal};
 
-// The largest list and the largest place that have room.
-const MOST_LIST: u32 = 255;
+// The largest number and list, and the largest place, that have room.
+const MOST_BYTE: u32 = 255;
 
 const MOST_PLACE: u64 = 281474976710655;
+
+// A number or a list, or the largest that has room.
+fn byte(x: u32) -> u64
+    ensures { result ≡ min x 255 }
+{
+    u64::from(x.min(MOST_BYTE))
+}
+
+// A place, or the largest that has room.
+fn bounded(place: usize) -> u64
+    ensures { result ≡ min place most_place }
+{
+    (place as u64).min(MOST_PLACE)
+}
 
 // Number, list and place in one number: 8 bits, 8 bits and 48 bits from the lowest up.
 #[tactic(auto, unfolding(crate::specs::Packed::capped_of))]
@@ -24,9 +38,9 @@ pub fn packed(answer: Answer) -> u64
     match answer {
         Ok(()) => 0,
         Err(e) => {
-            let number = u64::from(u32::from(e.reason));
-            let list = u64::from(e.list.min(MOST_LIST));
-            let place = (e.place as u64).min(MOST_PLACE);
+            let number = byte(u32::from(e.reason));
+            let list = byte(e.list);
+            let place = bounded(e.place);
             number + 256 * list + 65536 * place
         }
     }

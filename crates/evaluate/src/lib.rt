@@ -37,12 +37,13 @@ fn value(gate: Gate, x: u8, y: u8, z: u8) -> u8
 }
 
 // The inputs' values, at the front. It asks for room, which a public function may not: glue has its own, for words.
-#[tactic(auto, unfolding(answer::specs::Fronts::over))]
 fn put_inputs(inputs: &[u8], values: &mut [u8])
     requires { length inputs.now ≤ length values.old }
     ensures { values.new ≡ over inputs.now values.old }
 {
-    values[..inputs.len()].copy_from_slice(inputs);
+    for (i, &input) in inputs.iter().enumerate() {
+        values[i] = input;
+    }
 }
 
 // The gates' values, after those of the inputs, which stand. In an accepted netlist every kind is known: the

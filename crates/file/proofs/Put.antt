@@ -50,6 +50,10 @@ pub joined_none : (f : ℕ → List ℕ) (l : List ℕ) (at : ℕ) → l ≡ set
 unfolding joined
 joined_none f l at = refl
 
+pub joined_empty : (f : ℕ → List ℕ) (b : ℕ) → b ≡ b + length (joined 0 f)
+unfolding joined
+joined_empty f b = omega arith
+
 pub joined_next : (f : ℕ → List ℕ) (j : ℕ) → length (joined (j + 1) f) ≡ length (joined j f) + length (f j)
 unfolding joined
 joined_next f j = rw (add-one j) (length-append (joined j f) (f j))

@@ -100,12 +100,13 @@ impl Seam<'_> {
 }
 
 // A list's words, at the front. It asks for room, which a public function may not: evaluate has its own, for bytes.
-#[tactic(auto, unfolding(answer::specs::Fronts::over))]
 fn copy(from: &[u32], out: &mut [u32])
     requires { length from.now ≤ length out.old }
     ensures { out.new ≡ over from.now out.old }
 {
-    out[..from.len()].copy_from_slice(from);
+    for (i, &word) in from.iter().enumerate() {
+        out[i] = word;
+    }
 }
 
 // The glued netlist's counts.

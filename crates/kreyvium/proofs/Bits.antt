@@ -88,6 +88,13 @@ pub bit_small : (x i : ℕ) → bit x i ≤ 1
 unfolding bit
 bit_small x i = omega arith
 
+pub bits_small : (n x i : ℕ) → get_or (bits n x) i 0 ≤ 1
+unfolding bits
+bits_small zero x zero = omega arith
+bits_small zero x (suc i) = omega arith
+bits_small (suc n) x zero = omega arith
+bits_small (suc n) x (suc i) = bits_small n (x / 2) i
+
 pub bit_xor_lem : (a b i : ℕ) → bit (bit_xor a b) i ≡ (bit a i + bit b i) % 2
 unfolding bit
 bit_xor_lem a b i = rw (xor_shr a b i) (omega (arith, xor_add_and (a / 2 ^ i) (b / 2 ^ i)))

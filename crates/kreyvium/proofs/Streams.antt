@@ -2,11 +2,11 @@
 use mathlib.Core.Path.{◌≡◌, refl, ap, sym, ◌∙◌}
 use mathlib.Core.List.{List, [], ◌∷◌, ◌++◌}
 use Prim.Native.Nat.{ℕ, zero, suc, ◌+◌, ◌*◌, ◌-◌, ◌/◌, ◌%◌, ◌^◌, ◌≤◌, ◌<◌}
-use native.Mathlib.Nat.{suc-add}
+use native.Mathlib.Nat.{suc-add, not-suc-le-zero, le_of_suc-le-suc}
 use native.Mathlib.Omega.{arith}
-use lib.ListN.{length, get_or}
+use lib.ListN.{length, take, get_or}
 use lib.Seq.{get_or-take, length-take-le}
-use Rattle.kreyvium.specs.Kreyvium.{Registers, out_of, push, round_of, rounds, stream}
+use Rattle.kreyvium.specs.Kreyvium.{Registers, out_of, push, round_of, rounds, stream, stream_of}
 use Rattle.kreyvium.specs.Words.{bit, tops}
 
 pub registers_eq : {X : Type 0} {a a' b b' c c' k k' v v' : List X} → a ≡ a' → b ≡ b' → c ≡ c' → k ≡ k' → v ≡ v'
@@ -89,3 +89,29 @@ out_small s = odd _
   where
     odd : (x : ℕ) → x % 2 ≤ 1
     odd x = omega arith
+
+pub stream_small : (n : ℕ) (s : Registers ℕ) (i : ℕ) → get_or (stream n s) i 0 ≤ 1
+unfolding stream
+stream_small zero s zero = omega arith
+stream_small zero s (suc i) = omega arith
+stream_small (suc n) s zero = out_small s
+stream_small (suc n) s (suc i) = stream_small n (round_of s) i
+
+pub stream_at : (n : ℕ) (s : Registers ℕ) (i : ℕ) → i < n → get_or (stream n s) i 0 ≡ out_of (rounds i s)
+unfolding stream rounds
+stream_at zero s i h = absurd (not-suc-le-zero h)
+stream_at (suc n) s zero h = refl
+stream_at (suc n) s (suc i) h = stream_at n (round_of s) i (le_of_suc-le-suc h)
+
+-- a shorter stream is a front of a longer one
+pub stream-take : (n m : ℕ) (s : Registers ℕ) → n ≤ m → take n (stream m s) ≡ stream n s
+unfolding stream
+stream-take zero m s h = refl
+stream-take (suc n) zero s h = absurd (not-suc-le-zero h)
+stream-take (suc n) (suc m) s h = ap (λ (l : List ℕ). out_of s ∷ l) (stream-take n m (round_of s) (le_of_suc-le-suc h))
+
+-- ---- the keystream
+module _ (key iv : List ℕ) where
+  pub stream_of-length : (m : ℕ) → length (stream_of key iv m) ≡ m
+  unfolding stream_of
+  stream_of-length m = stream-length m _

@@ -10,6 +10,7 @@ use lib.Dec.{eqb}
 use lib.ListN.{length, get_or, length-append, drop_of_length-le}
 use lib.Seq.{get_or-append-add, get_or-append_seam}
 use Rattle.std.specs.Prelude.{Option, Some, None}
+use Rattle.std.specs.Char.{is_ascii_digit}
 use Rattle.std.proofs.lemmas.Bool.Decides.{nat_tests}
 use Rattle.answer.specs.Choose.{choose}
 use Rattle.line.specs.declared.Line.{Line}
@@ -67,7 +68,7 @@ unfolding asked_of
 asked_only s d n e = asked_first s d n (number_at s 0) refl e
 
 -- ---- and a line is asked for
-module _ (pre rest : List ℕ) (v c : ℕ) (k : c < 48) where
+module _ (pre rest : List ℕ) (v c : ℕ) (k : is_ascii_digit c ≡ false) where
   line_at : (t : List ℕ) (i : ℕ) → decimal v ≡ t → get_or (pre ++ (decimal v ++ c ∷ rest)) (length pre + i) 0 ≡ get_or (t ++ c ∷ rest) i 0
   line_at t i e = get_or-append-add pre _ i 0 ∙ ap (λ (t : List ℕ). get_or (t ++ c ∷ rest) i 0) e
 
@@ -125,9 +126,9 @@ asked_line d n h k =
     let lp : length p ≡ i + 1 = length-append (decimal d) (32 ∷ []) in
     let j = i + 1 + length (decimal n) in
     let first : number_at s 0 ≡ read d i =
-    ap (λ (t : List ℕ). number_at t 0) e ∙ number_line [] (decimal n ++ 10 ∷ []) d 32 (omega arith) h ∙ ap (read d) z in
+    ap (λ (t : List ℕ). number_at t 0) e ∙ number_line [] (decimal n ++ 10 ∷ []) d 32 refl h ∙ ap (read d) z in
     let second : number_at s (i + 1) ≡ read n j =
-    (λ a. number_at (f a) (sym lp a)) ∙ number_line p [] n 10 (omega arith) k ∙ ap (λ (x : ℕ). read n (x + length (decimal n))) lp in
+    (λ a. number_at (f a) (sym lp a)) ∙ number_line p [] n 10 refl k ∙ ap (λ (x : ℕ). read n (x + length (decimal n))) lp in
     let b : get_or s i 0 ≡ 32 = ap (λ (t : List ℕ). get_or t i 0) e ∙ get_or-append_seam (decimal d) 32 (decimal n ++ 10 ∷ []) 0 in
     let l : length s ≡ j + 1 = omega (arith, length-append (decimal d ++ 32 ∷ decimal n) (10 ∷ []), length-append (decimal d) (32 ∷ decimal n)) in
     let q : length (decimal d ++ 32 ∷ decimal n) ≡ j = omega (arith, length-append (decimal d) (32 ∷ decimal n)) in

@@ -1,5 +1,6 @@
 -- A number as the code reads it: its digits, and no more.
 use Prim.Native.Nat.{ℕ, zero, suc, ◌+◌, ◌*◌, ◌/◌, ◌%◌, ◌≤◌, ◌<◌}
+use mathlib.Core.Bool.{false}
 use mathlib.Core.Path.{◌≡◌, refl, sym, ap, ap₂, ◌∙◌}
 use mathlib.Core.List.{List, [], ◌∷◌, ◌++◌}
 use native.Mathlib.Omega.{arith}
@@ -7,6 +8,7 @@ use native.Mathlib.Numerals.{add-one}
 use lib.ListN.{length, get_or, drop}
 use lib.Seq.{drop-cons}
 use Rattle.std.specs.Prelude.{Option, Some, None}
+use Rattle.std.specs.Char.{is_ascii_digit}
 use Rattle.std.proofs.lemmas.Grind.{common_steps}
 use Rattle.std.proofs.lemmas.Bool.Decides.{leb_tells, nat_tests}
 use Rattle.line.specs.declared.Number.{Number}
@@ -14,7 +16,7 @@ use Rattle.line.specs.Asked.{read, digit_at, number_of, number_at}
 use Rattle.line.specs.Decimal.{decimal}
 use Rattle.line.proofs.Decimals.{decimal_low, decimal_two, decimal_three}
 
--- a digit's byte and its value; a byte below '0' is none
+-- a digit's byte and its value; another byte has none
 pub digit_byte : (s : List ℕ) (i x : ℕ) → digit_at s i ≡ Some x → (get_or s i 0 ≡ 48 + x) × (x ≤ 9)
 unfolding digit_at
 digit_byte s i x e = grind (arith, common_steps, nat_tests, leb_tells)
@@ -23,9 +25,9 @@ digit_made : (s : List ℕ) (i x : ℕ) → get_or s i 0 ≡ 48 + x → x ≤ 9 
 unfolding digit_at
 digit_made s i x e h = grind (arith, common_steps, nat_tests, leb_tells)
 
-digit_none : (s : List ℕ) (i b : ℕ) → get_or s i 0 ≡ b → b < 48 → digit_at s i ≡ None
+digit_none : (s : List ℕ) (i b : ℕ) → get_or s i 0 ≡ b → is_ascii_digit b ≡ false → digit_at s i ≡ None
 unfolding digit_at
-digit_none s i b e h = grind (arith, common_steps, nat_tests, leb_tells)
+digit_none s i b e h = rw (e, h) refl
 
 pub number_past : (s : List ℕ) (i : ℕ) (q : Number) → number_at s i ≡ Some q → q.past ≤ i + 3
 unfolding number_at number_of
@@ -59,6 +61,8 @@ next_byte s i b e h = rw (add-one i, ← e) (drop-cons s i 0 (inside s i (omega 
 -- where a number is read: its digits, and the place past them
 pub record Digits (s : List ℕ) (i : ℕ) (q : Number) : Type 0 where
   pub small : q.value ≤ 999
+  pub past : q.past ≤ i + 3
+  pub within : q.past ≤ length s
   pub text : drop i s ≡ decimal q.value ++ drop q.past s
 
 module _ (s : List ℕ) (i : ℕ) where
@@ -70,6 +74,8 @@ module _ (s : List ℕ) (i : ℕ) where
       let k = digit_byte s i a x in
       record {
         small = omega arith;
+        past = omega arith;
+        within = omega (arith, inside s i (omega arith));
         text = next_digit i a x ∙ ap (λ (t : List ℕ). t ++ drop (i + 1) s) (sym (decimal_low a (omega arith)));
       }
 
@@ -80,6 +86,8 @@ module _ (s : List ℕ) (i : ℕ) where
       let z : i + 1 + 1 ≡ i + 2 = omega arith in
       record {
         small = omega arith;
+        past = omega arith;
+        within = omega (arith, inside s (i + 1) (omega arith));
         text =
             next_digit i a x
             ∙ ap (λ (t : List ℕ). (48 + a) ∷ t) (next_digit (i + 1) b y)
@@ -97,6 +105,8 @@ module _ (s : List ℕ) (i : ℕ) where
       let w : i + 2 + 1 ≡ i + 3 = omega arith in
       record {
         small = omega arith;
+        past = omega arith;
+        within = omega (arith, inside s (i + 2) (omega arith));
         text =
             next_digit i a x
             ∙ ap (λ (t : List ℕ). (48 + a) ∷ t) (next_digit (i + 1) b y)
@@ -125,12 +135,12 @@ module _ (s : List ℕ) (i : ℕ) where
 
   -- and a number whose bytes stand there is read
   module _ (a b : ℕ) (h : a ≤ 9) (e : get_or s i 0 ≡ 48 + a) where
-    pub one_there : get_or s (i + 1) 0 ≡ b → b < 48 → number_at s i ≡ read a (i + 1)
+    pub one_there : get_or s (i + 1) 0 ≡ b → is_ascii_digit b ≡ false → number_at s i ≡ read a (i + 1)
     unfolding number_at number_of
     one_there f k = grind (arith, digit_made s i a e h, digit_none s (i + 1) b f k)
 
     module _ (l : b ≤ 9) (m : 0 < a) (f : get_or s (i + 1) 0 ≡ 48 + b) (c : ℕ) where
-      pub two_there : get_or s (i + 2) 0 ≡ c → c < 48 → number_at s i ≡ read (a * 10 + b) (i + 2)
+      pub two_there : get_or s (i + 2) 0 ≡ c → is_ascii_digit c ≡ false → number_at s i ≡ read (a * 10 + b) (i + 2)
       unfolding number_at number_of
       two_there g k = grind (arith, digit_made s i a e h, digit_made s (i + 1) b f l, digit_none s (i + 2) c g k)
 

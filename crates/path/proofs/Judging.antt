@@ -7,6 +7,7 @@ use native.Mathlib.Omega.{arith}
 use lib.ListN.{length}
 use lib.Dec.{ltb, eqb}
 use Rattle.std.specs.Prelude.{Err, Ok}
+use Rattle.std.specs.Result.{result_and}
 use Rattle.answer.specs.declared.Reason.TheVariants.{Fit, Gates}
 use Rattle.answer.specs.declared.Refusal.{Refusal}
 use Rattle.answer.specs.Answers.{Answer, ◌▹◌, refuse}
@@ -101,6 +102,15 @@ module _ (inst m : ℕ) (key rec idx wh : List ℕ) where
     pub judged : {r : Answer} → sizes ≡ Ok tt → bits ≡ Ok tt → wiring ≡ Ok tt → r ≡ results_answer inst m (decipher_words inst m idx wh) score lent → r ≡ due
     unfolding score_answer
     judged d b w e = pass (encipher_parts ∙ both d (both b w)) e
+
+-- a row that the library's `and` makes
+and_row : (a b : Answer) → result_and a b ≡ a ▹ b
+unfolding ◌▹◌
+and_row (Ok _) b = refl
+and_row (Err r) b = refl
+
+pub anded : {a b r s t : Answer} → t ≡ result_and r s → r ≡ a → s ≡ b → t ≡ a ▹ b
+anded {a = a} {b = b} h e f = rw (h, e, f, and_row a b)
 
 -- 9, 8, 10 and 11 from the netlists' counts
 pub results_are : (inst m k gates words g o i : ℕ) (a b : List ℕ) (lent : Rooms)

@@ -80,13 +80,12 @@ fn fit(m: u32, inputs: u32, gates: usize) -> Answer
     Ok(())
 }
 
-// 9, 8, 10 and 11, where the deciphering netlist has this size. A broken scoring netlist does not say what it would need: 9
+// 9, 8, 10 and 11, where the deciphering netlist has this size. What a broken scoring netlist would need does not matter: 9
 // comes first.
 fn results(call: Call, size: Size, lent: Rooms) -> Answer
     requires { size.gates ≤ gate_limit }
     ensures { (a : List ℕ) → size.gates ≡ gates_of a → size.words ≡ length a → result ≡ results_answer call.entry.instance call.entry.m a call.entry.scoring.now lent }
 {
-    netlist::check::check_as(call.scoring, 5)?;
     let counts = netlist::counts::counts_of(call.scoring);
     let sizes = instance::sizes_of(call.instance);
     let inputs = sizes.key + call.m as usize;
@@ -100,8 +99,10 @@ fn results(call: Call, size: Size, lent: Rooms) -> Answer
         wires: inputs + both,
         scores: outputs,
     };
-    room(lent, needed)?;
-    fit(call.m, counts.inputs, both)
+    let nine = netlist::check::check_as(call.scoring, 5);
+    let eight = room(lent, needed);
+    let last = fit(call.m, counts.inputs, both);
+    nine.and(eight.and(last))
 }
 
 // 4 to 7 on the wiring, which emit::decipher_size judges: its lists 1 and 2 are 3 and 4 here.

@@ -34,7 +34,9 @@ fn put_bytes(out: &mut [u8], at: usize, from: &[u8])
     requires { at + length from.now ≤ length out.old }
     ensures { out.new ≡ sets out.old at from.now }
 {
-    out[at..at + from.len()].copy_from_slice(from);
+    for (i, &byte) in from.iter().enumerate() {
+        out[at + i] = byte;
+    }
 }
 
 // The bits of a key, at the front.

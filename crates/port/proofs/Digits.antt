@@ -2,7 +2,7 @@
 use Prim.Native.Nat.{ℕ, zero, suc, ◌+◌, ◌*◌, ◌-◌, ◌/◌, ◌%◌, ◌^◌, ◌<◌, ◌≤◌}
 use mathlib.Core.Path.{◌≡◌, refl, sym, ap, ap₂, ◌∙◌}
 use mathlib.Core.List.{List}
-use native.Mathlib.Nat.{add_assoc, add-suc, add-zero, add-mul, suc-mul, mul_assoc, mul-le-mul_right, pow-zero, pow-suc}
+use native.Mathlib.Nat.{add_assoc, add-suc, add-zero, add-mul, suc-mul, mul_assoc, mul-le-mul_left, mul-le-mul_right, pow-zero, pow-suc}
 use native.Mathlib.Numerals.{add-one}
 use native.Mathlib.Omega.{arith}
 use lib.ListN.{get_or}
@@ -41,6 +41,22 @@ unfolding value_at
 digits_below base s p zero h = rw (pow-zero base) (omega arith)
 digits_below base s p (suc n) h =
     rw (pow-suc base n) (below_step (value_at base s p n) _ base (base ^ n) (digits_below base s p n (λ i l. h i (omega arith))) (h n (omega arith)))
+
+-- so a number that is read digit by digit never outgrows n digits
+grows : (b i k : ℕ) → 0 < b → b ^ i ≤ b ^ (i + k)
+grows b i zero h = rw (add-zero i) (omega arith)
+grows b i (suc k) h =
+    rw (add-suc i k, pow-suc b (i + k)) (at_least (b ^ i) (b ^ (i + k)) (grows b i k h))
+  where
+    at_least : (p q : ℕ) → p ≤ q → p ≤ q * b
+    at_least p q g = let e : q * 1 ≤ q * b = mul-le-mul_left q (omega arith) in omega arith
+
+pub next_fits : (b n i x d : ℕ) → i < n → x < b ^ i → d < b → x * b + d < b ^ n
+next_fits b n i x d h g l =
+    let k = n - suc i in
+    let e : suc i + k ≡ n = omega arith in
+    let p : b ^ suc i ≤ b ^ n = rw e at (grows b (suc i) k (omega arith)) in
+    omega (arith, rw (← pow-suc b i) at (below_step x d b (b ^ i) g l))
 
 -- the first m digits and the n after them
 pub digits_split : (base : ℕ) (s : List ℕ) (p m n : ℕ) → value_at base s p (m + n) ≡ value_at base s p m * base ^ n + value_at base s (p + m) n

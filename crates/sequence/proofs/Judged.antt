@@ -4,7 +4,7 @@ use Rattle.answer.specs.declared.Refusal.{Refusal}
 use Rattle.answer.specs.declared.Reason.TheVariants.{Frame, Order}
 use Rattle.std.specs.Int.{w64, from_be_bytes}
 use lib.Seq.{get_or-take, get_or-drop}
-use Rattle.std.proofs.Common.{take, drop, ◌≡◌, ℕ, zero, suc, ◌+◌, ◌-◌, ◌*◌, ◌/◌, ◌^◌, ◌<◌, ◌≤◌, Bool, true, false, not, eqb, ltb, leb, List, length, get_or, sym, refl, ap, ◌∙◌, ap₂, arith, eq-eqb, ne_eqb, eqb-true, le-leb, leb-true}
+use Rattle.std.proofs.Common.{take, drop, ◌≡◌, ℕ, zero, suc, ◌+◌, ◌-◌, ◌*◌, ◌/◌, ◌^◌, ◌<◌, ◌≤◌, Bool, true, false, not, eqb, ltb, leb, List, length, get_or, sym, refl, ap, ◌∙◌, ap₂, mul-le-mul_right, suc-mul, arith, le-ltb, lt-ltb, eq-eqb, ne_eqb, eqb-true, le-leb, leb-true}
 use native.Mathlib.Decide.{dec_le}
 use borrow.Author.Tests.{lt-leb, eqb-false, not-false}
 use Rattle.answer.specs.Answers.{Answer, refused, ◌▹◌, each}
@@ -41,6 +41,13 @@ module _ (s : List ℕ) (p : ℕ) where
   pub begins_mark : p + frame_size ≤ length s → get_or s p 0 < 256 → get_or s (p + 1) 0 < 256 → eqb (get_or s p 0 + get_or s (p + 1) 0 * 256) 21584 ≡ frame_begins s p
   begins_mark h a b = both_bytes (get_or s p 0) (get_or s (p + 1) 0) a b ∙ sym (begins_by h)
 
+  -- and one by one
+  pub begins_first : p + frame_size ≤ length s → (get_or s p 0 ≡ byte_p → ⊥) → eqb (get_or s p 0) byte_p ≡ frame_begins s p
+  begins_first h n = let e = ne_eqb (get_or s p 0) byte_p n in e ∙ sym (begins_by h ∙ rw e refl)
+
+  pub begins_second : p + frame_size ≤ length s → get_or s p 0 ≡ byte_p → eqb (get_or s (p + 1) 0) byte_t ≡ frame_begins s p
+  begins_second h e = sym (begins_by h ∙ rw e refl)
+
   pub begins_within : frame_begins s p ≡ true → p + frame_size ≤ length s
   unfolding frame_begins
   begins_within e = leb-true (p + frame_size) (length s) (chosen _ _ e).0
@@ -76,6 +83,27 @@ module _ (s : List ℕ) (p : ℕ) where
   word_there h = rw (le-leb (p + 8) (length s) h)
 
 -- ---- IVs as numbers
+
+-- two numbers of two words are compared by their high words, and by the low ones where those are equal
+pub high_decides : (M a b v w : ℕ) → b < M → w < M → (a ≡ v → ⊥) → ltb a v ≡ ltb (a * M + b) (v * M + w)
+high_decides M a b v w h g n =
+    elim (dec_le (suc a) v) [ yes l ↦ lt-ltb a v l ∙ sym (lt-ltb _ _ (less a b v w h l)) | no l ↦ le-ltb a v (omega arith) ∙ sym (le-ltb _ _ (least (less v w a b g (omega arith)))) ]
+  where
+    less : (a b v w : ℕ) → b < M → a < v → a * M + b < v * M + w
+    less a b v w h l = let k : suc a * M ≤ v * M = mul-le-mul_right M l in omega (arith, suc-mul a M)
+
+    least : {x y : ℕ} → x < y → x ≤ y
+    least l = omega arith
+
+pub low_decides : (M a b v w : ℕ) → a ≡ v → ltb b w ≡ ltb (a * M + b) (v * M + w)
+low_decides M a b v w e =
+    elim (dec_le (suc b) w) [ yes l ↦ lt-ltb b w l ∙ sym (lt-ltb (a * M + b) (v * M + w) (rw e (more (v * M) b w l))) | no l ↦ le-ltb b w (omega arith) ∙ sym (le-ltb (a * M + b) (v * M + w) (rw e (most (v * M) w b (omega arith)))) ]
+  where
+    more : (x b w : ℕ) → b < w → x + b < x + w
+    more x b w l = omega arith
+
+    most : (x b w : ℕ) → b ≤ w → x + b ≤ x + w
+    most x b w l = omega arith
 
 -- the IV of the frame at p is two words
 iv_words : (s : List ℕ) (p : ℕ) → value_at 256 s (p + 2) 16 ≡ value_at 256 s (p + 2) 8 * 2 ^ 64 + value_at 256 s (p + 10) 8

@@ -1,4 +1,8 @@
+use mathlib.Core.Path.{sym, ◌∙◌}
 use native.Mathlib.Omega.{arith}
+use borrow.Author.Rules.{rules}
+use Prim.Native.Nat.{◌*◌}
+use Rattle.filter.specs.Papers.{triangle_size}
 use Rattle.filter.specs.Instances.{degrees_to}
 use Rattle.filter.proofs.Published.{triangle_total, triangle_holds}
 use Rattle.filter.proofs.Parts.{parts_start, parts_step, parts_end}
@@ -10,10 +14,9 @@ overflow_add-size c = omega (arith, triangle_holds c.args.k)
 pub loop-triangular-init : goal.loop-triangular-init
 loop-triangular-init c =
     let a = c.args in
-    let e = c.chunks_exact-triangular-items.ensures in
     let t = triangle_total a.k in
     rw c.into_iter-triangular-iterator.ensures.into_iter_gives
-    (parts_start (degrees_to a.k) 8 a.x.now _ _ _ (omega (arith, e.size)) (omega arith) (omega arith) e.rest)
+    (parts_start (degrees_to a.k) 8 a.x.now _ (8 * triangle_size a.k) _ (search rules ∙ sym t) (omega arith) (omega arith) (search rules))
 
 pub loop-triangular-preserved : goal.loop-triangular-preserved
 loop-triangular-preserved c =

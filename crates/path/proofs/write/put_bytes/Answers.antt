@@ -1,17 +1,27 @@
-use Prim.Native.Nat.{ℕ, ◌+◌, ◌-◌, ◌≤◌}
-use mathlib.Core.Path.{◌≡◌, sym, ◌∙◌}
-use mathlib.Core.List.{List, append_assoc}
+use Prim.Native.Nat.{ℕ, ◌+◌, ◌<◌}
+use mathlib.Core.Path.{◌≡◌, refl, sym, ap, ◌∙◌}
+use mathlib.Core.List.{List}
 use native.Mathlib.Omega.{arith}
-use lib.ListN.{length, take, drop}
-use lib.Seq.{sets, sets-eq}
-use borrow.Rule.Slice.PartMut.{put_mid, Post-is}
+use lib.ListN.{length, get_or, set, drop, length-set}
+use lib.Seq.{sets}
+use Rattle.netlist.proofs.Puts.{copy_turn, copy_end}
 use Rattle.path.proofs.write.put_bytes.Goals as goal
 
-copied : (out from : List ℕ) (at : ℕ) {new : List ℕ} → at + length from ≤ length out → new ≡ from
-    → put_mid at (at + length from - at) out new ≡ sets out at from
-copied out from at h e =
-    rw (Post-is at (at + length from) out (omega arith), e)
-    (sym (append_assoc (take at out) from (drop (at + length from) out)) ∙ sym (sets-eq from out at h))
+none : (out from : List ℕ) (at : ℕ) → sets out (at + 0) (drop 0 from) ≡ sets out at from
+none out from at = let e : at + 0 ≡ at = omega arith in ap (λ (i : ℕ). sets out i from) e
+
+turn : (out from : List ℕ) (at j : ℕ) → j < length from
+    → sets (set out (at + j) (get_or from j 0)) (at + (j + 1)) (drop (j + 1) from) ≡ sets out (at + j) (drop j from)
+turn out from at j h =
+    let e : at + (j + 1) ≡ at + j + 1 = omega arith in
+    ap (λ (i : ℕ). sets (set out (at + j) (get_or from j 0)) i (drop (j + 1) from)) e ∙ copy_turn out from (at + j) j h
+
+pub loop-i-init : goal.loop-i-init
+loop-i-init c = (none c.args.out.now c.args.from.now c.args.at, refl)
+
+pub loop-i-preserved : goal.loop-i-preserved
+loop-i-preserved c =
+    (turn _ _ _ _ c.loop-i-test.true ∙ c.loop-i.invariant.0, simp length-set c.loop-i.invariant.1)
 
 pub returns : goal.returns
-returns c = copied c.args.out.now c.args.from.now c.args.at c.requires c.copy_from_slice.ensures.after
+returns c = sym (copy_end _ _ _ _ c.loop-i-test.false) ∙ c.loop-i.invariant.0

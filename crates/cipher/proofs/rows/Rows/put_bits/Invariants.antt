@@ -1,6 +1,6 @@
 use mathlib.Core.Path.{◌≡◌}
 use Rattle.answer.specs.Fronts.{over}
-use Rattle.cipher.specs.Variables.{stream_rows}
+use Rattle.cipher.specs.InnerVariables.{stream_rows}
 use Rattle.cipher.proofs.rows.Rows.put_bits.Given as goal
 
 abbrev pub invariant-loop-i : goal.invariant-loop-i
