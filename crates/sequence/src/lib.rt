@@ -39,8 +39,8 @@ pub fn word(s: &[u8], at: usize) -> u64
     eight_bytes(s, at)
 }
 
-// Whether the mark stands at a place. Its bytes are compared one by one: compared as one number of 16 bits, which some
-// processors are slow to decode, they made the walk over a file half as long again.
+// Whether the mark stands at a place. Its bytes are compared one by one: docs/SPEED.md has what the walk took with the two
+// as one number.
 #[tactic(auto, using(crate::proofs::Judged::begins_first, crate::proofs::Judged::begins_second))]
 fn marked(s: &[u8], at: usize) -> bool
     requires { at + frame_size ≤ length s.now }
