@@ -41,12 +41,9 @@ module _ (s : List ℕ) (p : ℕ) where
   pub begins_mark : p + frame_size ≤ length s → get_or s p 0 < 256 → get_or s (p + 1) 0 < 256 → eqb (get_or s p 0 + get_or s (p + 1) 0 * 256) 21584 ≡ frame_begins s p
   begins_mark h a b = both_bytes (get_or s p 0) (get_or s (p + 1) 0) a b ∙ sym (begins_by h)
 
-  -- and one by one
-  pub begins_first : p + frame_size ≤ length s → (get_or s p 0 ≡ byte_p → ⊥) → eqb (get_or s p 0) byte_p ≡ frame_begins s p
-  begins_first h n = let e = ne_eqb (get_or s p 0) byte_p n in e ∙ sym (begins_by h ∙ rw e refl)
-
-  pub begins_second : p + frame_size ≤ length s → get_or s p 0 ≡ byte_p → eqb (get_or s (p + 1) 0) byte_t ≡ frame_begins s p
-  begins_second h e = sym (begins_by h ∙ rw e refl)
+  -- for code that asks it in any form
+  pub begins_number : {b : Bool} → p + frame_size ≤ length s → get_or s p 0 < 256 → get_or s (p + 1) 0 < 256 → b ≡ eqb (get_or s p 0 + get_or s (p + 1) 0 * 256) 21584 → b ≡ frame_begins s p
+  begins_number h a b e = e ∙ begins_mark h a b
 
   pub begins_within : frame_begins s p ≡ true → p + frame_size ≤ length s
   unfolding frame_begins

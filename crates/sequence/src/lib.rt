@@ -3,19 +3,17 @@
 #![tactic(auto)]
 
 ghost use Rattle.std.specs.Prelude.{◌≡◌, ◌+◌, ◌*◌, ◌/◌, ◌^◌, ◌<◌, ◌≤◌, length, nat_lt, Ok};
-ghost use Rattle.answer.specs.Answers.{each};
+ghost use Rattle.answer.specs.Answers.{refused, each};
 ghost use Rattle.port.specs.Bytes.{value_at};
-ghost use Rattle.sequence.specs.Files.{frame_size, frame_begins, iv_number, iv_word_at, frame_answer, file_answer};
+ghost use Rattle.sequence.specs.Files.{frame_size, start, frame_begins, iv_number, iv_word_at, frame_answer, file_answer};
 
 use answer::{Answer, Reason};
 
 // The bytes of a frame.
 pub const FRAME_SIZE: usize = 26;
 
-// The mark: two bytes.
-const BYTE_P: u8 = b'P';
-
-const BYTE_T: u8 = b'T';
+// "PT", the low byte first.
+const MARK: u16 = 21584;
 
 // The word that eight bytes from a place on make.
 #[tactic(auto, using(crate::proofs::Judged::read_eight))]
@@ -39,14 +37,13 @@ pub fn word(s: &[u8], at: usize) -> u64
     eight_bytes(s, at)
 }
 
-// Whether the mark stands at a place. Its bytes are compared one by one: docs/SPEED.md has what the walk took with the two
-// as one number.
-#[tactic(auto, using(crate::proofs::Judged::begins_first, crate::proofs::Judged::begins_second))]
+// Whether the mark stands at a place.
+#[tactic(auto, using(crate::proofs::Judged::begins_number))]
 fn marked(s: &[u8], at: usize) -> bool
     requires { at + frame_size ≤ length s.now }
     ensures { result ≡ frame_begins s.now at }
 {
-    s[at] == BYTE_P && s[at + 1] == BYTE_T
+    u16::from_le_bytes([s[at], s[at + 1]]) == MARK
 }
 
 // An IV, in two words, as one number. Two numbers are compared by a borrow from the low words, so that nothing branches
@@ -81,6 +78,16 @@ pub fn iv_above(p0: u64, p1: u64, v0: u64, v1: u64) -> bool
     above(number(p0, p1), number(v0, v1))
 }
 
+// A refusal of frame k, at the byte where it begins. Out of line and by k, so that the walk below keeps no place of its own:
+// docs/SPEED.md, "Why", has what that does.
+#[inline(never)]
+fn frame_refused(reason: Reason, list: u32, k: usize) -> Answer
+    requires { frame_size * k < 2 ^ 64 }
+    ensures { result ≡ refused reason list (start k) }
+{
+    answer::refused(reason, list, FRAME_SIZE * k)
+}
+
 // 15 and 16 of the frames from the second on, of the first `count`. The IV before is carried along. s stays the whole
 // file, here and below: `frame_answer` judges a frame at its place in it.
 #[tactic(auto, using(answer::proofs::Rows::each_stop, answer::proofs::Rows::each_more, answer::proofs::Rows::each_all, answer::proofs::Rows::each_none, crate::proofs::Judged::frame_bad, crate::proofs::Judged::frame_low, crate::proofs::Judged::frame_good, crate::proofs::Judged::rises_carried))]
@@ -92,13 +99,12 @@ fn later_frames(s: &[u8], count: usize, list: u32) -> Answer
 {
     let mut before = iv(s, 0);
     for k in 1..count {
-        let at = FRAME_SIZE * k;
-        if !marked(s, at) {
-            return answer::refused(Reason::Frame, list, at);
+        if !marked(s, FRAME_SIZE * k) {
+            return frame_refused(Reason::Frame, list, k);
         }
         let next = iv(s, k);
         if !above(before, next) {
-            return answer::refused(Reason::Order, list, at);
+            return frame_refused(Reason::Order, list, k);
         }
         before = next;
     }
