@@ -3,7 +3,7 @@
 #![tactic(auto)]
 
 ghost use Rattle.std.specs.Prelude.{◌≡◌, ◌+◌, ◌*◌, ◌/◌, ◌^◌, ◌<◌, ◌≤◌, length, nat_lt, Ok};
-ghost use Rattle.answer.specs.Answers.{refused, each};
+ghost use Rattle.answer.specs.Answers.{each};
 ghost use Rattle.port.specs.Bytes.{value_at};
 ghost use Rattle.sequence.specs.Files.{frame_size, start, frame_begins, iv_number, iv_word_at, frame_answer, file_answer};
 
@@ -78,14 +78,14 @@ pub fn iv_above(p0: u64, p1: u64, v0: u64, v1: u64) -> bool
     above(number(p0, p1), number(v0, v1))
 }
 
-// A refusal of frame k, at the byte where it begins. Out of line and by k, so that the walk below keeps no place of its own:
+// The byte where frame k begins, for its refusal. Out of line, so that the walk below keeps no place of its own:
 // docs/SPEED.md, "Why", has what that does.
 #[inline(never)]
-fn frame_refused(reason: Reason, list: u32, k: usize) -> Answer
+fn place(k: usize) -> usize
     requires { frame_size * k < 2 ^ 64 }
-    ensures { result ≡ refused reason list (start k) }
+    ensures { result ≡ start k }
 {
-    answer::refused(reason, list, FRAME_SIZE * k)
+    FRAME_SIZE * k
 }
 
 // 15 and 16 of the frames from the second on, of the first `count`. The IV before is carried along. s stays the whole
@@ -100,11 +100,11 @@ fn later_frames(s: &[u8], count: usize, list: u32) -> Answer
     let mut before = iv(s, 0);
     for k in 1..count {
         if !marked(s, FRAME_SIZE * k) {
-            return frame_refused(Reason::Frame, list, k);
+            return answer::refused(Reason::Frame, list, place(k));
         }
         let next = iv(s, k);
         if !above(before, next) {
-            return frame_refused(Reason::Order, list, k);
+            return answer::refused(Reason::Order, list, place(k));
         }
         before = next;
     }
@@ -126,8 +126,10 @@ fn whole_frames(s: &[u8], count: usize, list: u32) -> Answer
     later_frames(s, count, list)
 }
 
-// 15 and 16 of a whole file; what is left behind the whole frames is a cut one.
+// 15 and 16 of a whole file; what is left behind the whole frames is a cut one. Out of line, so that all callers share
+// one walk.
 #[tactic(auto, using(crate::proofs::Judged::file_stop, crate::proofs::Judged::file_cut, crate::proofs::Judged::file_end))]
+#[inline(never)]
 pub fn file(s: &[u8], list: u32) -> Answer
     ensures { result ≡ file_answer list s.now }
 {
