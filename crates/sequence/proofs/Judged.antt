@@ -41,7 +41,7 @@ module _ (s : List ℕ) (p : ℕ) where
   pub begins_mark : p + frame_size ≤ length s → get_or s p 0 < 256 → get_or s (p + 1) 0 < 256 → eqb (get_or s p 0 + get_or s (p + 1) 0 * 256) 21584 ≡ frame_begins s p
   begins_mark h a b = both_bytes (get_or s p 0) (get_or s (p + 1) 0) a b ∙ sym (begins_by h)
 
-  -- for code that asks it in any form
+  -- and whatever answers as that comparison does
   pub begins_number : {b : Bool} → p + frame_size ≤ length s → get_or s p 0 < 256 → get_or s (p + 1) 0 < 256 → b ≡ eqb (get_or s p 0 + get_or s (p + 1) 0 * 256) 21584 → b ≡ frame_begins s p
   begins_number h a b e = e ∙ begins_mark h a b
 

@@ -79,7 +79,7 @@ pub fn iv_above(p0: u64, p1: u64, v0: u64, v1: u64) -> bool
 }
 
 // The byte where frame k begins, for its refusal. Out of line, so that the walk below keeps no place of its own:
-// docs/SPEED.md, "Why", has what that does.
+// docs/SPEED.md, "Why", says what that does.
 #[inline(never)]
 fn place(k: usize) -> usize
     requires { frame_size * k < 2 ^ 64 }
@@ -127,7 +127,7 @@ fn whole_frames(s: &[u8], count: usize, list: u32) -> Answer
 }
 
 // 15 and 16 of a whole file; what is left behind the whole frames is a cut one. Out of line, so that all callers share
-// one walk.
+// one walk (the same page).
 #[tactic(auto, using(crate::proofs::Judged::file_stop, crate::proofs::Judged::file_cut, crate::proofs::Judged::file_end))]
 #[inline(never)]
 pub fn file(s: &[u8], list: u32) -> Answer
